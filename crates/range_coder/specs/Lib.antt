@@ -1,0 +1,4 @@
+pub mod Coding
+pub mod Decisions
+pub mod Code
+pub mod Promise

@@ -1,0 +1,4 @@
+pub mod Class
+pub mod Reading
+pub mod Saying
+pub mod Promise
