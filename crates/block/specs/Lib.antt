@@ -1,2 +1,6 @@
 pub mod Transform
 pub mod Promise
+pub mod Stages
+pub mod Picture
+pub mod Prediction
+pub mod Syntax

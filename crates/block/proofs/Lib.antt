@@ -1,0 +1,12 @@
+pub mod Apart
+pub mod Filled
+pub mod Inverse
+pub mod Near
+pub mod Passes
+pub mod Plain
+pub mod Signs
+pub mod Suffice
+pub mod Words
+pub mod ReadBack
+pub mod Parts
+pub mod Motion
