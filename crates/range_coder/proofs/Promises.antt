@@ -89,6 +89,17 @@ reads-from-start ds bs i = reads ds (start-decoder bs) start-encoder start-conte
 pub read-back : ReadBack
 read-back ds bs i = reads-from-start ds bs i .gives
 
+-- whatever is written, the writer's range is never small, and its bits hold the bottom of it
+sound-after : (ds : List Decision) (e : EncoderState) (f : Contexts) → Fair f → Sound e → Sound (written ds (writer-with e f) .encoder)
+unfolding written
+sound-after [] e f h s = s
+sound-after (adaptive c b ∷ ds) e f h s = sound-after ds (encoded (f c) b e) (learned f c b) (learned-fair f c b h) (encoded-sound (f c) b e (h c .1) s)
+sound-after (bypass b ∷ ds) e f h s = sound-after ds (encoded 128 b e) f h (encoded-sound 128 b e (omega arith) s)
+
+pub written-sound : (ds : List Decision) → Sound (written ds start-writer .encoder)
+unfolding start-writer
+written-sound ds = sound-after ds start-encoder start-contexts start-fair start-sound
+
 -- FINISHED: the bytes that are kept have the same bits as all of them, which make the bottom of the last range
 
 pub finished : (w : Writer) (k : ℕ) → k ≤ (w .bits + 7) / 8 → bits-of (take k (w .bytes)) ≡ bits-of (take ((w .bits + 7) / 8) (w .bytes))

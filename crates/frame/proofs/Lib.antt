@@ -1,0 +1,14 @@
+pub mod Blocks
+pub mod Keys
+pub mod Edges
+pub mod Padding
+pub mod Examples
+pub mod ReadBack
+pub mod Spending
+pub mod Saying
+pub mod StepRange
+pub mod Putting
+pub mod Placed
+pub mod Decoded
+pub mod Bands
+pub mod Rejecting
