@@ -60,8 +60,9 @@ pub fn add_at(bytes: &mut [u8], last: usize, amount: u32)
 }
 
 // How many of the first `end` bytes are left when zero bytes at their end are cut off.
-pub fn trimmed_length(bytes: &[u8], end: usize) -> usize
+fn trimmed_length(bytes: &[u8], end: usize) -> usize
     ensures within { λ r. ⌜ r ≤ end ⌝ }
+    ensures short { λ r. ⌜ r ≤ length (now (bytes .entry)) ⌝ }
     ensures same { λ r. ⌜ bits-of (take r (now (bytes .entry))) ≡ bits-of (take end (now (bytes .entry))) ⌝ }
     ensures last { λ r. ⌜ (r ≡ 0) ⊎ (0 < getD (now (bytes .entry)) (r - 1) 0) ⌝ }
 {
@@ -70,4 +71,14 @@ pub fn trimmed_length(bytes: &[u8], end: usize) -> usize
         kept -= 1;
     }
     kept
+}
+
+// The first `end` bytes without the zero bytes at their end, which say nothing.
+pub fn trimmed(bytes: &[u8], end: usize) -> &[u8]
+    ensures within { λ r. ⌜ length (now r) ≤ end ⌝ }
+    ensures same { λ r. ⌜ bits-of (now r) ≡ bits-of (take end (now (bytes .entry))) ⌝ }
+    ensures last { λ r. ⌜ (length (now r) ≡ 0) ⊎ (0 < getD (now r) (length (now r) - 1) 0) ⌝ }
+{
+    let kept = trimmed_length(bytes, end);
+    &bytes[0..kept]
 }

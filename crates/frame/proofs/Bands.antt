@@ -34,6 +34,7 @@ drawn-more f picture row k a pixels band before here e lb le x y xl yl = go (cas
         let jl : j < 4 = omega arith in
         getD-putMid-in a k pixels band (y * (4 * f .across) + x) (j * (4 * f .across) + x) 0 (rw y-is (omega arith)) (omega (arith, mul-add-lt j (4 * f .across) x 4 jl xl)) le
         ∙ here x j xl xl jl ∙ ap (picture x) (sym y-is)
+
     go : (y < 4 * row) ⊎ (4 * row ≤ y) → getD (putMid a k pixels band) (y * (4 * f .across) + x) 0 ≡ picture x y
     go (inl lt) = getD-putMid-before a k pixels band (y * (4 * f .across) + x) 0 (omega (arith, mul-add-lt y (4 * f .across) x (4 * row) lt xl)) le ∙ before x y xl lt
     go (inr ge) = within (y - 4 * row) (omega arith)

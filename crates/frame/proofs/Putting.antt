@@ -22,7 +22,7 @@ PutUpto width column pixels old i new =
 place-other : (w x y X Y : ℕ) → x < w → X < w → (x ≡ X → y ≡ Y → ⊥) → y * w + x ≢ Y * w + X
 place-other w x y X Y xl Xl off e =
     off (sym (mod-mul-add y w x xl) ∙ ap (λ n. n % w) e ∙ mod-mul-add Y w X Xl)
-       (sym (div-mul-add y w x xl) ∙ ap (λ n. n / w) e ∙ div-mul-add Y w X Xl)
+    (sym (div-mul-add y w x xl) ∙ ap (λ n. n / w) e ∙ div-mul-add Y w X Xl)
 
 -- a pixel is written at column X and row Y
 pub pixel-set : (w X Y v : ℕ) (xs : List ℕ) → X < w → Y * w + X < length xs → (x y value : ℕ) → x < w →
@@ -31,6 +31,7 @@ pixel-set w X Y v xs Xl lt x y value xl hit miss = go (cases-eq x X) (cases-eq y
   where
     missed : (x ≡ X → y ≡ Y → ⊥) → getD (set xs (Y * w + X) v) (y * w + x) 0 ≡ value
     missed off = getD-set-other xs (Y * w + X) (y * w + x) v 0 (place-other w x y X Y xl Xl off) ∙ miss off
+
     go : (x ≡ X) ⊎ (x ≡ X → ⊥) → (y ≡ Y) ⊎ (y ≡ Y → ⊥) → getD (set xs (Y * w + X) v) (y * w + x) 0 ≡ value
     go (inl e) (inl f) = rw (e, f) (getD-set-same xs (Y * w + X) v 0 lt ∙ hit e f)
     go (inl e) (inr g) = missed (λ _ f. g f)
@@ -56,6 +57,7 @@ module _ (w column : ℕ) (pixels old new : List ℕ) (i : ℕ) (il : i < 16) (f
           let ge = ltb-false (4 * y + x % 4) i h in
           let ne : 4 * y + x % 4 ≡ i → ⊥ = λ z. off (omega arith) (omega arith) in
           le-ltb (4 * y + x % 4) (i + 1) (omega arith)
+
       go : (a : Bool) → eqb (x / 4) column ≡ a → (a && ltb (4 * y + x % 4) (i + 1)) ≡ (a && ltb (4 * y + x % 4) i)
       go true e = late (eqb-true (x / 4) column e) (ltb (4 * y + x % 4) i) refl
       go false e = refl
@@ -67,9 +69,9 @@ module _ (w column : ℕ) (pixels old new : List ℕ) (i : ℕ) (il : i < 16) (f
       PutUpto w column pixels old (i + 1) (set new (i / 4 * w + (4 * column + i % 4)) (getD pixels i 0))
   put-more before lt x y xl yl =
       pixel-set w (4 * column + i % 4) (i / 4) (getD pixels i 0) new (omega arith) lt x y
-        (cond (eqb (x / 4) column && ltb (4 * y + x % 4) (i + 1)) (pixel-in pixels (x % 4) y) (getD old (y * w + x) 0)) xl
-        (λ e f. let k : i ≡ 4 * y + x % 4 = omega arith in rw (hit-test x y e f) (ap (λ n. getD pixels n 0) k))
-        (λ off. before x y xl yl ∙ ap (λ b. cond b (pixel-in pixels (x % 4) y) (getD old (y * w + x) 0)) (sym (new-test x y off)))
+      (cond (eqb (x / 4) column && ltb (4 * y + x % 4) (i + 1)) (pixel-in pixels (x % 4) y) (getD old (y * w + x) 0)) xl
+      (λ e f. let k : i ≡ 4 * y + x % 4 = omega arith in rw (hit-test x y e f) (ap (λ n. getD pixels n 0) k))
+      (λ off. before x y xl yl ∙ ap (λ b. cond b (pixel-in pixels (x % 4) y) (getD old (y * w + x) 0)) (sym (new-test x y off)))
 
 pub put-all : (w column : ℕ) (pixels old new : List ℕ) → PutUpto w column pixels old 16 new → BlockPut w column pixels old new
 put-all w column pixels old new h x y xl yl = h x y xl yl ∙ go (eqb (x / 4) column)

@@ -44,7 +44,7 @@ BlockDecoded f key r reference row column reader old new true =
     (reader-of reader ≡ past key r (row * f .across + column + 1))
     × (block-predictable f (block-at key r) (row * f .across + column) ≡ true)
     × ((x y : ℕ) → x < 4 * f .across → y < 4 →
-        getD new (y * (4 * f .across) + x) 0 ≡ cond (eqb (x / 4) column) (picture-read f key r reference x (4 * row + y)) (getD old (y * (4 * f .across) + x) 0))
+    getD new (y * (4 * f .across) + x) 0 ≡ cond (eqb (x / 4) column) (picture-read f key r reference x (4 * row + y)) (getD old (y * (4 * f .across) + x) 0))
 
 -- row `row` of blocks is read and drawn, or some block cannot be predicted
 abbrev pub RowDecoded : Format → (key : Bool) → ReaderState → (reference : List ℕ) → (row : ℕ) → Reader → (band : List ℕ) → Bool → Type 0

@@ -68,8 +68,8 @@ block-of-pixel f x y = y / 4 * f .across + x / 4
 unfoldable pub picture-of : Format → (reference : Picture) → (ℕ → Block) → Picture
 picture-of f reference blocks x y =
     reconstructed (f .step) (blocks (block-of-pixel f x y) .levels)
-      (predicted reference (4 * (x / 4)) (4 * (y / 4)) (blocks (block-of-pixel f x y) .prediction) (x % 4) (y % 4))
-      (x % 4) (y % 4)
+    (predicted reference (4 * (x / 4)) (4 * (y / 4)) (blocks (block-of-pixel f x y) .prediction) (x % 4) (y % 4))
+    (x % 4) (y % 4)
 
 unfoldable pub shows : Format → (reference : Picture) → Frame → Picture
 shows f reference frame = picture-of f reference (frame-block frame)

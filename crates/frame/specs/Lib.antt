@@ -4,3 +4,4 @@ pub mod Saying
 pub mod Show
 pub mod Decoding
 pub mod Promise
+pub mod Video

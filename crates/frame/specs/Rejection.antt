@@ -57,15 +57,15 @@ few n = leb 1 n && leb n 60
 unfoldable pub format-rejection : (across down step : ℕ) → Option Rejection
 format-rejection across down step =
     or-else (unless (few across) (BlockCount Across))
-      (or-else (unless (few down) (BlockCount Down))
-        (or-else (unless (leb (across * down) 224) (BlockCount Total))
-          (unless (leb 1 step && leb step 64) StepRange)))
+    (or-else (unless (few down) (BlockCount Down))
+    (or-else (unless (leb (across * down) 224) (BlockCount Total))
+    (unless (leb 1 step && leb step 64) StepRange)))
 
 -- what a reference picture and a place for a picture can be rejected for
 unfoldable pub planes-rejection : (pixels : ℕ) → (reference output : List ℕ) → Option Rejection
 planes-rejection pixels reference output =
     or-else (unless (eqb (length reference) pixels) (PictureLength Reference))
-      (unless (eqb (length output) pixels) (PictureLength Output))
+    (unless (eqb (length output) pixels) (PictureLength Output))
 
 -- and what a picture can be that is both
 unfoldable pub picture-rejection : (pixels : ℕ) → (picture : List ℕ) → Option Rejection

@@ -34,7 +34,11 @@ impl Format {
             return Err(Rejection::BlockCount(Extent::Total));
         }
         match Step::new(step) {
-            Some(step) => Ok(Format { across: across as usize, down: down as usize, step }),
+            Some(step) => Ok(Format {
+                across: across as usize,
+                down: down as usize,
+                step,
+            }),
             None => Err(Rejection::StepRange),
         }
     }
@@ -60,7 +64,10 @@ impl Format {
     pub fn plane_size(self) -> PlaneSize
         ensures { λ r. ⌜ r ≡ plane-size (format-of self) ⌝ }
     {
-        PlaneSize { width: 4 * self.across as u16, height: 4 * self.down as u16 }
+        PlaneSize {
+            width: 4 * self.across as u16,
+            height: 4 * self.down as u16,
+        }
     }
 
     // How many pixels a picture has.

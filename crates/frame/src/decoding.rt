@@ -77,7 +77,14 @@ pub(crate) fn decode(
     let mut reader = Reader::new(bytes);
     let band = 16 * format.across;
     for row in 0..format.down {
-        if !decode_row(format, header, &mut reader, reference, row, &mut output[row * band..(row + 1) * band]) {
+        if !decode_row(
+            format,
+            header,
+            &mut reader,
+            reference,
+            row,
+            &mut output[row * band..(row + 1) * band],
+        ) {
             return false;
         }
     }

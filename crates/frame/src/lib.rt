@@ -8,6 +8,7 @@ mod promises;
 mod rejection;
 mod show_result;
 mod showing;
+
 pub use drawing::put_block;
 pub use format::Format;
 pub use header::FrameHeader;

@@ -51,7 +51,14 @@ fn show_with(
         Err(rejection) => ShowResult::Rejected(rejection),
         Ok(()) => {
             let pixels = format.pixel_count();
-            show_through(format, header, bytes, reference, &mut scratch[0..pixels], output)
+            show_through(
+                format,
+                header,
+                bytes,
+                reference,
+                &mut scratch[0..pixels],
+                output,
+            )
         }
     }
 }

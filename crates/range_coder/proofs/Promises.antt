@@ -6,7 +6,7 @@ use mathlib.Core.Logic.{_⊎_}
 use Prim.Native.Nat.{ℕ, _+_, _-_, _/_, _≤_, _<_}
 use native.Mathlib.Omega.{arith}
 use lib.Dec.{eqb}
-use lib.ListN.{getD, take}
+use lib.ListN.{getD, length, take}
 use Rattle.std.proofs.shelf.Tests.{cond-both}
 use Rattle.bits.specs.Bits.{Bits, bits-of, skip, zeros, prefix-value}
 use Rattle.bits.proofs.Positions.{bits-of-take}
@@ -102,10 +102,10 @@ written-sound ds = sound-after ds start-encoder start-contexts start-fair start-
 
 -- FINISHED: the bytes that are kept have the same bits as all of them, which make the bottom of the last range
 
-pub finished : (w : Writer) (k : ℕ) → k ≤ (w .bits + 7) / 8 → bits-of (take k (w .bytes)) ≡ bits-of (take ((w .bits + 7) / 8) (w .bytes))
-    → (k ≡ 0) ⊎ (0 < getD (w .bytes) (k - 1) 0) → Finished w k
+pub finished : (w : Writer) (bytes : List ℕ) → length bytes ≤ (w .bits + 7) / 8 → bits-of bytes ≡ bits-of (take ((w .bits + 7) / 8) (w .bytes))
+    → (length bytes ≡ 0) ⊎ (0 < getD bytes (length bytes - 1) 0) → Finished w bytes
 unfolding zeros
-finished w k within same last = record {
+finished w bytes within same last = record {
   within = omega arith;
   last = last;
   gives = λ ds e. read ds e .gives;
@@ -114,7 +114,7 @@ finished w k within same last = record {
 }
   where
     bs : Bits
-    bs = bits-of (take k (w .bytes))
+    bs = bits-of bytes
 
     all : bs ≡ bits-of (w .bytes)
     all = same ∙ bits-of-take (w .bytes) ((w .bits + 7) / 8) (λ n h. w .clean n (omega arith))

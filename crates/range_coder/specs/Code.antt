@@ -4,7 +4,7 @@ use mathlib.Core.Bool.{Bool, true, false}
 use mathlib.Core.List.{List, []}
 use mathlib.Core.Logic.{_⊎_}
 use Prim.Native.Nat.{ℕ, _+_, _*_, _-_, _≤_, _<_}
-use lib.ListN.{length, getD, take}
+use lib.ListN.{length, getD}
 use Rattle.bits.specs.Bits.{Bits, bits-of, unread, zeros, prefix-value}
 use Rattle.range_coder.specs.Coding.{DecoderState, EncoderState}
 use Rattle.range_coder.specs.Decisions.{Contexts, ReaderState, Read, WriterState, Decision, Gives, after, start-reader, start-writer, written}
@@ -47,11 +47,11 @@ pub record HasWritten (most : ℕ) (ds : List Decision) (before after : Writer) 
   pub same : before .bits + most ≤ capacity → writer-of after ≡ written ds (writer-of before)
   pub spent : after .bits ≤ before .bits + most
 
--- the first k bytes are what was written with zero bits at the end left off: whatever decisions those were,
+-- bytes are what was written with zero bits at the end left off: whatever decisions those were,
 -- they are read back, the offset then is 0, no 1 bit is left over, and the last byte is not 0
-pub record Finished (w : Writer) (k : ℕ) : Type 0 where
-  pub within : 8 * k < w .bits + 8
-  pub last : (k ≡ 0) ⊎ (0 < getD (w .bytes) (k - 1) 0)
-  pub gives : (ds : List Decision) → writer-of w ≡ written ds start-writer → Gives (start-reader (bits-of (take k (w .bytes)))) ds
-  pub bottom : (ds : List Decision) → writer-of w ≡ written ds start-writer → after (start-reader (bits-of (take k (w .bytes)))) ds .decoder .offset ≡ 0
-  pub rest : (ds : List Decision) → writer-of w ≡ written ds start-writer → after (start-reader (bits-of (take k (w .bytes)))) ds .decoder .rest ≡ zeros
+pub record Finished (w : Writer) (bytes : List ℕ) : Type 0 where
+  pub within : 8 * length bytes < w .bits + 8
+  pub last : (length bytes ≡ 0) ⊎ (0 < getD bytes (length bytes - 1) 0)
+  pub gives : (ds : List Decision) → writer-of w ≡ written ds start-writer → Gives (start-reader (bits-of bytes)) ds
+  pub bottom : (ds : List Decision) → writer-of w ≡ written ds start-writer → after (start-reader (bits-of bytes)) ds .decoder .offset ≡ 0
+  pub rest : (ds : List Decision) → writer-of w ≡ written ds start-writer → after (start-reader (bits-of bytes)) ds .decoder .rest ≡ zeros

@@ -105,17 +105,10 @@ impl Writer {
         self.contexts.learn(context, decision);
     }
 
-    // How many bytes hold all that was written.
-    pub fn finish(&self) -> usize
-        ensures { λ k. ⌜ Finished (now (self .entry)) k ⌝ }
+    // The bytes that hold all that was written.
+    pub fn finish(&self) -> &[u8]
+        ensures { λ r. ⌜ Finished (now (self .entry)) (now r) ⌝ }
     {
-        bits::trimmed_length(&self.bytes, (self.bits + 7) / 8)
-    }
-
-    // The bytes, of which `finish` says how many count.
-    pub fn bytes(&self) -> &[u8]
-        ensures { λ r. ⌜ now r ≡ now (self .entry) .bytes ⌝ }
-    {
-        &self.bytes
+        bits::trimmed(&self.bytes, (self.bits + 7) / 8)
     }
 }

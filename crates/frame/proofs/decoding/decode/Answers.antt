@@ -20,10 +20,11 @@ use Rattle.frame.proofs.decoding.decode.Needs as need
 pub loop-row-holds : need.loop-row-holds
 unfolding past
 loop-row-holds c =
-    let z : 0 * c .args .format .across ≡ 0 = omega arith in
-    (c .new-reader .ensures .start ∙ ap (past (c .args .header .key) (start-reader (bits-of (c .args .bytes .now)))) (sym z),
-     (λ i _ il. absurd (let f : ⊥ = omega arith in f)),
-     (λ x y _ yl. absurd (let f : ⊥ = omega arith in f)))
+    let z : 0 * c .args .format .across ≡ 0 = omega arith in (
+      c .new-reader .ensures .start ∙ ap (past (c .args .header .key) (start-reader (bits-of (c .args .bytes .now)))) (sym z),
+      (λ i _ il. absurd (let f : ⊥ = omega arith in f)),
+      (λ x y _ yl. absurd (let f : ⊥ = omega arith in f)),
+    )
 
 pub part-decode-row-end : need.part-decode-row-end
 part-decode-row-end c =
@@ -49,16 +50,18 @@ band-start c =
 
 pub loop-row-again : need.loop-row-again
 loop-row-again c =
-    let u = c .if-not-decode-row .ensures tt (start-reader (bits-of (c .args .bytes .now))) (c .loop-row .inv .0) in
-    (u .0,
-     (λ i z il. elim (cases-lt i (c .loop-row .row * c .args .format .across)) [ inl h ↦ c .loop-row .inv .1 i z h | inr h ↦ u .1 i h il ]),
-     drawn-more (format-of (c .args .format)) _ (c .loop-row .row) _ _ (c .loop-row .output) (c .decode-row .last .band) (c .loop-row .inv .2) (u .2) refl (band-length c) (band-start c))
+    let u = c .if-not-decode-row .ensures tt (start-reader (bits-of (c .args .bytes .now))) (c .loop-row .inv .0) in (
+      u .0,
+      (λ i z il. elim (cases-lt i (c .loop-row .row * c .args .format .across)) [ inl h ↦ c .loop-row .inv .1 i z h | inr h ↦ u .1 i h il ]),
+      drawn-more (format-of (c .args .format)) _ (c .loop-row .row) _ _ (c .loop-row .output) (c .decode-row .last .band) (c .loop-row .inv .2) (u .2) refl (band-length c) (band-start c),
+    )
 
 pub returns : need.returns
 unfolding valid shows
 returns c =
     let n : c .loop-row .row ≡ c .args .format .down = omega arith in
     let m : c .loop-row .row * c .args .format .across ≡ c .args .format .across * c .args .format .down
-          = ap (λ k. k * c .args .format .across) n ∙ mul-comm (c .args .format .down) (c .args .format .across) in
-    (every-from (block-count (format-of (c .args .format))) _ (λ i l. c .loop-row .inv .1 i (omega arith) (omega arith)),
-     record { long = omega arith; at = λ x y xl yl. c .loop-row .inv .2 x y xl (omega arith) })
+    = ap (λ k. k * c .args .format .across) n ∙ mul-comm (c .args .format .down) (c .args .format .across) in (
+      every-from (block-count (format-of (c .args .format))) _ (λ i l. c .loop-row .inv .1 i (omega arith) (omega arith)),
+      record { long = omega arith; at = λ x y xl yl. c .loop-row .inv .2 x y xl (omega arith) },
+    )

@@ -18,7 +18,7 @@ index-band-i c = within c
 pub loop-i-again : need.loop-i-again
 loop-i-again c =
     put-more (c .args .width) (c .args .column) (c .args .pixels) (c .args .band .now) (c .loop-i .band) (c .loop-i .i) (c .loop-i-test .taken) (c .pre .column)
-      (c .loop-i .inv) (within c)
+    (c .loop-i .inv) (within c)
 
 pub returns : need.returns
 returns c =

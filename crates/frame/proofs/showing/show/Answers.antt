@@ -17,7 +17,7 @@ unfolding show-rejection
 returns-in-Ok c =
     let m = made _ _ (c .in-Ok .format) (c .in-Ok .ensures tt) in
     let P : Format → Type 0 = λ f.
-        ShowSays (planes-rejection (16 * block-count f) (c .args .reference .now) (c .args .output .now)) f
-          (record { header = record { key = c .args .key }; bits = bits-of (c .args .bytes .now) }) (c .args .reference .now) (c .args .output .now)
-          (c .show-frame .result) (c .show-frame .last .output) in
+    ShowSays (planes-rejection (16 * block-count f) (c .args .reference .now) (c .args .output .now)) f
+    (record { header = record { key = c .args .key }; bits = bits-of (c .args .bytes .now) }) (c .args .reference .now) (c .args .output .now)
+    (c .show-frame .result) (c .show-frame .last .output) in
     rw (m .0) (subst P (m .1) (c .show-frame .ensures))

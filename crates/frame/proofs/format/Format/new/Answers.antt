@@ -25,12 +25,20 @@ pub returns-in-Some : need.returns-in-Some
 unfolding format-rejection
 returns-in-Some c =
     let e = c .in-Some .ensures tt in
-    rw (← (c .if-not-is-few .ensures tt), ← (c .if-not-is-few-2 .ensures tt), le-leb (c .args .across * c .args .down) 224 (c .if-across-down-gt224 .left),
-        step-in-range (c .args .step) (e .1) (e .2))
-      (λ i. record { across = c .args .across; down = c .args .down; step = e .0 i })
+    rw (
+      ← (c .if-not-is-few .ensures tt),
+      ← (c .if-not-is-few-2 .ensures tt),
+      le-leb (c .args .across * c .args .down) 224 (c .if-across-down-gt224 .left),
+      step-in-range (c .args .step) (e .1) (e .2),
+    )
+    (λ i. record { across = c .args .across; down = c .args .down; step = e .0 i })
 
 pub returns-in-None : need.returns-in-None
 unfolding format-rejection
 returns-in-None c =
-    rw (← (c .if-not-is-few .ensures tt), ← (c .if-not-is-few-2 .ensures tt), le-leb (c .args .across * c .args .down) 224 (c .if-across-down-gt224 .left),
-        step-out-of-range (c .args .step) (c .in-None .ensures tt))
+    rw (
+      ← (c .if-not-is-few .ensures tt),
+      ← (c .if-not-is-few-2 .ensures tt),
+      le-leb (c .args .across * c .args .down) 224 (c .if-across-down-gt224 .left),
+      step-out-of-range (c .args .step) (c .in-None .ensures tt),
+    )

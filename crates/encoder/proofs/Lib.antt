@@ -1,0 +1,5 @@
+pub mod Vectors
+pub mod Proceeding
+pub mod Rows
+pub mod Finishing
+pub mod Pictures

@@ -1,0 +1,4 @@
+pub mod Steps
+pub mod Knowing
+pub mod Standing
+pub mod Screens
