@@ -3,3 +3,4 @@ pub mod Proceeding
 pub mod Rows
 pub mod Finishing
 pub mod Pictures
+pub mod Lowering

@@ -8,6 +8,7 @@ use Rattle.block.specs.Picture.{picture-in}
 use Rattle.block.specs.Prediction.{predictable, predicted}
 use Rattle.block.specs.Syntax.{SayableBlock, SayablePrediction}
 use Rattle.block.specs.Transform.{distance, pixel-in, reconstructed}
+use Rattle.block.specs.declared.step.Step.{Step}
 use Rattle.encoder.specs.declared.choice.Place.{Place}
 use Rattle.encoder.specs.declared.choice.Predicted.{Predicted}
 use Rattle.encoder.specs.declared.choice.Choice.{Choice}
@@ -27,3 +28,7 @@ pub record ChosenAs (key : Bool) (step : ℕ) (place : Place) (reference source 
       pixel-in (c .pixels) x y
       ≡ reconstructed step (c .block .levels) (predicted (picture-in (place .size .width) reference) (place .left) (place .top) (c .block .prediction) x y) x y
   pub close : (x y : ℕ) → x < 4 → y < 4 → distance (pixel-in (c .pixels) x y) (pixel-in source x y) ≤ step / 2
+
+-- the same wherever the prediction was made: in whichever frame, at whichever place, from whichever reference
+abbrev pub Chosen : Step → (source : List ℕ) → Predicted → Choice → Type 0
+Chosen step source predicted c = (key : Bool) (place : Place) (reference : List ℕ) → PredictedAs key place reference predicted → ChosenAs key (step .value) place reference source c

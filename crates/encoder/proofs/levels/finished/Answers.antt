@@ -9,3 +9,6 @@ pub returns-in-Some : need.returns-in-Some
 returns-in-Some c key place reference p =
     c .in-Some .ensures tt key place reference p
     (λ i l. subst (λ (z : ℤ). natAbs z ≤ 65534) (sym (getD-replicate 16 i (pos 0) (pos 0) l)) (omega arith))
+
+pub returns-in-None : need.returns-in-None
+returns-in-None c = c .lowered .ensures (c .with-nearest-nearest .ensures)
