@@ -47,7 +47,15 @@ unfoldable pub code-rejection : (across down step : ℕ) → (source reference o
 code-rejection across down step source reference output =
     or-else (format-rejection across down step) (pictures-rejection (16 * (across * down)) source reference output)
 
--- a frame is coded, and the buffer is as it was after it; a buffer is called short only where it is shorter than the worst case; what is rejected changes nothing
+-- a frame that the source is coded as does not fit in so many bytes
+pub record TooShort (f : Format) (key : Bool) (source reference : List ℕ) (room : ℕ) : Type 0 where
+  pub bytes : List ℕ
+  pub picture : List ℕ
+  pub coded : Coded f key source reference bytes picture
+  pub longer : room < length bytes
+
+-- a frame is coded, and the buffer is as it was after it; a buffer is called short only where it is shorter than the worst case
+-- and than the frame at hand; what is rejected changes nothing
 abbrev pub CodeSays : Option Rejection → Format → (key : Bool) → (source reference buffer output : List ℕ) → Result ℕ Rejection → (buffer₁ output₁ : List ℕ) → Type 0
 CodeSays (Some e) f key source reference buffer output r buffer₁ output₁ = (r ≡ Err e) × (buffer₁ ≡ buffer) × (output₁ ≡ output)
 CodeSays None f key source reference buffer output (Ok n) buffer₁ output₁ =
@@ -55,3 +63,4 @@ CodeSays None f key source reference buffer output (Ok n) buffer₁ output₁ =
     × Coded f key source reference (take n buffer₁) output₁
 CodeSays None f key source reference buffer output (Err e) buffer₁ output₁ =
     (e ≡ BufferTooShort (length buffer)) × (length buffer < worst-case f) × (buffer₁ ≡ buffer) × (output₁ ≡ output)
+    × TooShort f key source reference (length buffer)

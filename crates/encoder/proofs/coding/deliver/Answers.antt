@@ -8,12 +8,26 @@ use Rattle.std.proofs.shelf.Lists.{places, take-at}
 use Rattle.std.proofs.shelf.Parts.{overwrites}
 use Rattle.frame.specs.Show.{format-of}
 use Rattle.encoder.specs.Code.{Coded}
-use Rattle.encoder.proofs.Finishing.{coded}
+use Rattle.encoder.proofs.Finishing.{coded, fits}
 use Rattle.encoder.proofs.coding.deliver.Needs as need
 
 -- the front of a buffer that bytes were copied to
 copied : (bytes front rest : List ℕ) → front ≡ bytes → take (length bytes) (front ++ rest) ≡ bytes
 copied bytes front rest e = ap (λ xs. take (length bytes) (xs ++ rest)) e ∙ take-at bytes rest _ refl
+
+pub returns-then-length-buffer : need.returns-then-length-buffer
+returns-then-length-buffer c =
+    let f = format-of (c .args .format) in
+    let bytes = c .finish-bytes .result .now in
+    (refl,
+     omega (arith, fits f (c .args .header .key) (c .args .source .now) (c .args .reference .now) (c .args .writer .now) (c .args .picture .now) (c .pre .picture) (c .pre .encoded) bytes (c .finish-bytes .ensures)),
+     refl,
+     refl,
+     record {
+       bytes = bytes;
+       picture = c .args .picture .now;
+       coded = coded f (c .args .header .key) (c .args .source .now) (c .args .reference .now) (c .args .writer .now) (c .args .picture .now) (c .pre .picture) (c .pre .encoded) bytes (c .finish-bytes .ensures);
+       longer = c .if-length-buffer .taken })
 
 pub returns : need.returns
 returns c =
