@@ -1,3 +1,6 @@
 pub mod Choice
 pub mod Progress
 pub mod Code
+pub mod Measure
+pub mod Session
+pub mod Promise

@@ -1,0 +1,111 @@
+// Pictures are gathered row by row, and coded as soon as they are whole.
+use encoder::Encoder;
+use frame::Format;
+use frame::Rejection;
+use frame::RejectionDisplay;
+use std::alloc::Global;
+use std::error::AnyError;
+
+#[derive(Drop)]
+pub struct Session {
+    encoder: Encoder,
+    width: usize,
+    // The picture's pixels, of which the first `filled` are read, and room for its frame.
+    source: Vec<u8>,
+    filled: usize,
+    buffer: Vec<u8>,
+    // The next picture is to be a key frame.
+    key: bool,
+}
+
+// A rejection's message, a position in a line being one in the whole input.
+fn message(heap: Global, rejection: Rejection, offset: u64) -> Result<AnyError, AnyError> {
+    let placed = match rejection {
+        Rejection::BadText(position) => Rejection::BadText(position.saturating_add(offset)),
+        other => other,
+    };
+    Ok(format!(heap, "{placed}")?.as_str().into())
+}
+
+// Codes a picture, and writes its packet and how far its worst pixel is off.
+fn code_picture(
+    rt: &LibcRuntime,
+    encoder: &mut Encoder,
+    source: &[u8],
+    key: bool,
+    buffer: &mut [u8],
+) -> Result<(), AnyError> {
+    let heap = rt.alloc();
+    let pushed = match encoder.push(source, key, buffer) {
+        Ok(pushed) => pushed,
+        Err(rejection) => return Err(message(heap, rejection, 0)?),
+    };
+    let bytes = &buffer[0..pushed.length.min(buffer.len())];
+    rt.println(text::write_packet(heap, pushed.number, pushed.key, bytes)?)?;
+    let worst = encoder::worst_distance(encoder.picture(), source);
+    rt.println(text::write_worst(heap, worst)?)?;
+    Ok(())
+}
+
+impl Session {
+    pub fn new(heap: Global, format: Format) -> Result<Session, AnyError> {
+        let source = vec![in heap; 0u8; format.pixel_count()]?;
+        let buffer = vec![in heap; 0u8; encoder::worst_case_size(format)]?;
+        Ok(Session {
+            encoder: Encoder::new(format),
+            width: 4 * format.across(),
+            source,
+            filled: 0,
+            buffer,
+            key: false,
+        })
+    }
+
+    // Takes the next line, which begins at that offset of the input.
+    pub fn take_line(&mut self, rt: &LibcRuntime, line: &str, offset: u64) -> Result<(), AnyError> {
+        if text::is_blank_line(line) {
+            return Ok(());
+        }
+        if text::is_key_line(line) && self.filled == 0 {
+            self.key = true;
+            return Ok(());
+        }
+        self.take_row(rt.alloc(), line, offset)?;
+        if self.filled >= self.source.len() {
+            self.code(rt)?;
+        }
+        Ok(())
+    }
+
+    fn take_row(&mut self, heap: Global, line: &str, offset: u64) -> Result<(), AnyError> {
+        let start = self.filled;
+        let end = start.saturating_add(self.width);
+        if end > self.source.len() {
+            return Err("a picture has more rows than its size says".into());
+        }
+        let source = self.source.as_mut_slice();
+        match text::parse_row(line, &mut source[start..end]) {
+            Ok(()) => {
+                self.filled = end;
+                Ok(())
+            }
+            Err(rejection) => Err(message(heap, rejection, offset)?),
+        }
+    }
+
+    // Codes the picture that was read, and writes its packet and how far its worst pixel is off.
+    fn code(&mut self, rt: &LibcRuntime) -> Result<(), AnyError> {
+        code_picture(rt, &mut self.encoder, &self.source, self.key, &mut self.buffer)?;
+        self.filled = 0;
+        self.key = false;
+        Ok(())
+    }
+
+    // The end of the input, at that offset: a picture that was begun is cut short.
+    pub fn end(self, heap: Global, offset: u64) -> Result<(), AnyError> {
+        if self.filled == 0 {
+            return Ok(());
+        }
+        Err(message(heap, Rejection::BadText(offset), 0)?)
+    }
+}

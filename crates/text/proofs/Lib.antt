@@ -1,0 +1,6 @@
+pub mod Cutting
+pub mod Digits
+pub mod Gathering
+pub mod ReadBack
+pub mod Spacing
+pub mod Steps

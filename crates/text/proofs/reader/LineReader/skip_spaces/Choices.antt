@@ -1,0 +1,12 @@
+use mathlib.Core.Path.{_≡_}
+use Prim.Native.Nat.{_-_}
+use denote.Ref.{now}
+use lib.ListN.{length}
+use Rattle.text.specs.Line.{left}
+use Rattle.text.proofs.reader.LineReader.skip_spaces.Given as given
+
+abbrev pub Inv-loop-self : given.InvT-loop-self
+Inv-loop-self l = left (l .self) ≡ left (l .entry .self)
+
+abbrev pub μ-loop-self : given.MeasureT-loop-self
+μ-loop-self l = length (now (l .self .line)) - l .self .offset

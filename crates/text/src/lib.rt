@@ -1,0 +1,28 @@
+//! The text forms that programs read and write: lines of words between spaces.
+mod error;
+mod forms;
+mod line;
+mod number;
+mod parsing;
+mod promises;
+mod reader;
+mod writing;
+pub use error::TextError;
+pub use error::TextErrorFromRefused;
+pub use error::TextErrorFromRejection;
+pub use forms::Header;
+pub use forms::Packet;
+pub use parsing::is_blank_line;
+pub use parsing::is_key_line;
+pub use parsing::is_worst_line;
+pub use parsing::parse_header;
+pub use parsing::parse_packet;
+pub use parsing::parse_row;
+pub use parsing::parse_worst;
+pub use promises::reads_back;
+pub use writing::write_header;
+pub use writing::write_packet;
+pub use writing::write_row;
+pub use writing::write_sure;
+pub use writing::write_unsure;
+pub use writing::write_worst;
