@@ -1,24 +1,10 @@
 //! Codes pictures into a video: reads them as text from standard input, and writes packets as text to standard output.
 mod session;
 
-use frame::RejectionDisplay;
 use session::Session;
-use std::alloc::Global;
 use std::error::AnyError;
 use std::io::BufRead;
 use std::io::BufReader;
-
-// The format that the first line says.
-fn read_format(heap: Global, line: &str) -> Result<frame::Format, AnyError> {
-    let header = match text::parse_header(line) {
-        Ok(header) => header,
-        Err(rejection) => return Err(format!(heap, "{rejection}")?.as_str().into()),
-    };
-    match frame::Format::new(header.across, header.down, header.step) {
-        Ok(format) => Ok(format),
-        Err(rejection) => Err(format!(heap, "{rejection}")?.as_str().into()),
-    }
-}
 
 fn run(rt: &LibcRuntime) -> Result<(), AnyError> {
     let heap = rt.alloc();
@@ -27,7 +13,10 @@ fn run(rt: &LibcRuntime) -> Result<(), AnyError> {
         return Err("the first line should be: size A D step S".into());
     };
     let first = first?;
-    let format = read_format(heap, first.as_str())?;
+    let format = match text::parse_format(first.as_str()) {
+        Ok(format) => format,
+        Err(rejection) => return Err(session::refusal(heap, rejection)?),
+    };
     rt.println(first.as_str())?;
     let mut session = Session::new(heap, format)?;
     let mut offset = first.len() as u64;

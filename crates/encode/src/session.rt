@@ -18,13 +18,9 @@ pub struct Session {
     key: bool,
 }
 
-// A rejection's message, a position in a line being one in the whole input.
-fn message(heap: Global, rejection: Rejection, offset: u64) -> Result<AnyError, AnyError> {
-    let placed = match rejection {
-        Rejection::BadText(position) => Rejection::BadText(position.saturating_add(offset)),
-        other => other,
-    };
-    Ok(format!(heap, "{placed}")?.as_str().into())
+// What a rejection says, as an error of the program.
+pub fn refusal(heap: Global, rejection: Rejection) -> Result<AnyError, AnyError> {
+    Ok(format!(heap, "{rejection}")?.as_str().into())
 }
 
 // Codes a picture, and writes its packet and how far its worst pixel is off.
@@ -38,7 +34,7 @@ fn code_picture(
     let heap = rt.alloc();
     let pushed = match encoder.push(source, key, buffer) {
         Ok(pushed) => pushed,
-        Err(rejection) => return Err(message(heap, rejection, 0)?),
+        Err(rejection) => return Err(refusal(heap, rejection)?),
     };
     let bytes = &buffer[0..pushed.length.min(buffer.len())];
     rt.println(text::write_packet(heap, pushed.number, pushed.key, bytes)?)?;
@@ -89,13 +85,19 @@ impl Session {
                 self.filled = end;
                 Ok(())
             }
-            Err(rejection) => Err(message(heap, rejection, offset)?),
+            Err(rejection) => Err(refusal(heap, text::placed(rejection, offset))?),
         }
     }
 
     // Codes the picture that was read, and writes its packet and how far its worst pixel is off.
     fn code(&mut self, rt: &LibcRuntime) -> Result<(), AnyError> {
-        code_picture(rt, &mut self.encoder, &self.source, self.key, &mut self.buffer)?;
+        code_picture(
+            rt,
+            &mut self.encoder,
+            &self.source,
+            self.key,
+            &mut self.buffer,
+        )?;
         self.filled = 0;
         self.key = false;
         Ok(())
@@ -106,6 +108,6 @@ impl Session {
         if self.filled == 0 {
             return Ok(());
         }
-        Err(message(heap, Rejection::BadText(offset), 0)?)
+        Err(refusal(heap, Rejection::BadText(offset))?)
     }
 }

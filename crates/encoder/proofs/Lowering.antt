@@ -15,6 +15,7 @@ sayable-set zs k v say small i l = go (cases-eq i k)
   where
     within : i < length zs
     within = omega (arith, length-set zs k v)
+
     go : (i ≡ k) ⊎ (i ≡ k → ⊥) → natAbs (getD (set zs k v) i (pos 0)) ≤ largest
     go (inl e) = subst (λ z. natAbs z ≤ largest) (sym (ap (λ j. getD (set zs k v) j (pos 0)) e)) (subst (λ z. natAbs z ≤ largest) (sym (getD-set-same zs k v (pos 0) (omega (arith, within)))) small)
     go (inr ne) = subst (λ z. natAbs z ≤ largest) (sym (getD-set-other zs k i v (pos 0) ne)) (say i within)

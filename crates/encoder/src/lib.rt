@@ -7,6 +7,7 @@ mod measure;
 mod motion;
 mod promises;
 mod session;
+
 pub use coding::code;
 pub use coding::code_frame;
 pub use coding::worst_case_size;

@@ -64,7 +64,8 @@ impl Rejection {
             Rejection::BlockCount(Extent::Down) => "there must be 1 to 60 blocks down",
             Rejection::BlockCount(Extent::Total) => "there may be at most 224 blocks in all",
             Rejection::StepRange => "the step must be 1 to 64",
-            Rejection::PictureLength(Plane::Reference) => "the reference picture has the wrong length",
+            Rejection::PictureLength(Plane::Reference) =>
+                "the reference picture has the wrong length",
             Rejection::PictureLength(Plane::Output) => "the output picture has the wrong length",
             Rejection::SourceLength(_) => "the source picture has the wrong length",
             Rejection::BufferTooShort(_) => "the buffer is too short for the frame",

@@ -10,25 +10,9 @@ use std::io::BufReader;
 use stream::Screen;
 use text::TextError;
 
-// A rejection's message, a position in a line being one in the whole input.
-fn message(heap: Global, rejection: Rejection, offset: u64) -> Result<AnyError, AnyError> {
-    let placed = match rejection {
-        Rejection::BadText(position) => Rejection::BadText(position.saturating_add(offset)),
-        other => other,
-    };
-    Ok(format!(heap, "{placed}")?.as_str().into())
-}
-
-// The format that the first line says.
-fn read_format(heap: Global, line: &str) -> Result<frame::Format, AnyError> {
-    let header = match text::parse_header(line) {
-        Ok(header) => header,
-        Err(rejection) => return Err(message(heap, rejection, 0)?),
-    };
-    match frame::Format::new(header.across, header.down, header.step) {
-        Ok(format) => Ok(format),
-        Err(rejection) => Err(message(heap, rejection, 0)?),
-    }
+// What a rejection says, as an error of the program.
+fn refusal(heap: Global, rejection: Rejection) -> Result<AnyError, AnyError> {
+    Ok(format!(heap, "{rejection}")?.as_str().into())
 }
 
 // Whether the pictures are to be printed too.
@@ -52,12 +36,14 @@ fn receive(heap: Global, screen: &mut Screen, line: &str, offset: u64) -> Result
     let packet = match text::parse_packet(heap, line) {
         Ok(packet) => packet,
         Err(TextError::OutOfMemory) => return Err("out of memory".into()),
-        Err(TextError::Rejected(rejection)) => return Err(message(heap, rejection, offset)?),
+        Err(TextError::Rejected(rejection)) => return Err(
+            refusal(heap, text::placed(rejection, offset))?,
+        ),
     };
     let header = FrameHeader { key: packet.key };
     match screen.receive(packet.number, header, packet.bytes.as_slice()) {
         Ok(()) => Ok(()),
-        Err(rejection) => Err(message(heap, rejection, offset)?),
+        Err(rejection) => Err(refusal(heap, text::placed(rejection, offset))?),
     }
 }
 
@@ -90,7 +76,10 @@ fn run(rt: &LibcRuntime) -> Result<(), AnyError> {
         return Err("the first line should be: size A D step S".into());
     };
     let first = first?;
-    let format = read_format(heap, first.as_str())?;
+    let format = match text::parse_format(first.as_str()) {
+        Ok(format) => format,
+        Err(rejection) => return Err(refusal(heap, rejection)?),
+    };
     let mut screen = Screen::new(format);
     let mut offset = first.len() as u64;
     for line in lines {

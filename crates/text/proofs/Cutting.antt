@@ -69,16 +69,16 @@ module _ (line : List ℕ) (start stop : ℕ) (ws : Words) (reading : Within lin
       ⊎-elim
       (after-byte (end stop) [] none (at-end _ stop) (at-end [] stop))
       (λ o.
-          let empty : between start stop line ≡ [] = nil-from-length _ (length-between line start stop inside ∙ omega (arith, reading .order)) in
-          let is-end : words-from [] stop (drop stop line) ≡ end stop = ap (words-from [] stop) none ∙ at-end [] stop in
-          subst (Next line start stop) (sym is-end ∙ ap (λ bs. words-from bs stop (drop stop line)) (sym empty) ∙ reading .same)
-          (record { position = omega (arith, reading .order); bytes = empty; rest = is-end }))
+      let empty : between start stop line ≡ [] = nil-from-length _ (length-between line start stop inside ∙ omega (arith, reading .order)) in
+      let is-end : words-from [] stop (drop stop line) ≡ end stop = ap (words-from [] stop) none ∙ at-end [] stop in
+      subst (Next line start stop) (sym is-end ∙ ap (λ bs. words-from bs stop (drop stop line)) (sym empty) ∙ reading .same)
+      (record { position = omega (arith, reading .order); bytes = empty; rest = is-end }))
       (cases-lt start stop)
 
   pub at-line-space : stop < length line → getD line stop 0 ≡ 32 → Next line start stop ws
   at-line-space more space =
       after-byte _ _ (drop-more line stop 0 more) (at-space _ stop _ _ space) (at-space [] stop _ _ space)
       (⊎-elim
-        (λ o. o)
-        (λ o. let same : start ≡ stop = omega (arith, reading .order) in absurd (reading .first (omega arith) (ap (λ i. getD line i 0) same ∙ space)))
-        (cases-lt start stop))
+      (λ o. o)
+      (λ o. let same : start ≡ stop = omega (arith, reading .order) in absurd (reading .first (omega arith) (ap (λ i. getD line i 0) same ∙ space)))
+      (cases-lt start stop))

@@ -1,21 +1,18 @@
 -- The numbers of a line are gathered one by one: what was read before, and then what the words that are left mean.
-use mathlib.Core.Bool.{Bool, true, false, cond}
+use mathlib.Core.Bool.{true, false}
 use mathlib.Core.List.{List, [], _∷_, _++_, append-assoc, append-nil}
 use mathlib.Core.Path.{_≡_, refl, sym, ap, _∙_}
 use Prim.Native.Nat.{ℕ, suc, _+_, _-_, _≤_, _<_}
 use native.Mathlib.Omega.{arith}
 use lib.ListN.{length, set, take}
 use Rattle.frame.specs.declared.rejection.Rejection.{Rejection}
-use Rattle.frame.specs.declared.rejection.Rejection.the-variants.{BadText}
 use Rattle.std.proofs.shelf.Lists.{take-all, take-more-set}
 use Rattle.std.proofs.shelf.Tests.{false≢true, true≢false}
 use Rattle.std.specs.Results.{isOk}
-use Rattle.std.specs.declared.option.Option.{Option}
-use Rattle.std.specs.declared.option.Option.the-variants.{None, Some}
 use Rattle.std.specs.declared.result.Result.{Result}
 use Rattle.std.specs.declared.result.Result.the-variants.{Ok, Err}
 use Rattle.text.proofs.Steps.{number-rest}
-use Rattle.text.specs.Line.{Words, end, word, rest, at-end, no-more, number-of, next-number, answered}
+use Rattle.text.specs.Line.{Words, end, word, rest, at-end, no-more, next-number, answered}
 use Rattle.text.specs.Text.{then, outcome, pixels-of, bytes-to-end}
 
 -- numbers that were read before those that are still to be read
@@ -24,10 +21,6 @@ after xs r = then r λ ys. Ok (xs ++ ys)
 
 abbrev pub one-more : ℕ → Result (List ℕ) Rejection → Result (List ℕ) Rejection
 one-more n r = then r λ ys. Ok (n ∷ ys)
-
-pub after-none : (r : Result (List ℕ) Rejection) → r ≡ after [] r
-after-none (Ok ys) = refl
-after-none (Err e) = refl
 
 after-more : (xs : List ℕ) (n : ℕ) (r : Result (List ℕ) Rejection) → after xs (one-more n r) ≡ after (xs ++ n ∷ []) r
 after-more xs n (Ok ys) = ap Ok (sym (append-assoc xs (n ∷ []) ys))
@@ -60,13 +53,6 @@ bytes-turn (word m bytes ws) vs n more r =
 
 pub bytes-more : (xs : List ℕ) (ws vs : Words) (n : ℕ) → at-end ws ≡ false → next-number 255 ws ≡ Ok (n, vs) → after xs (bytes-to-end ws) ≡ after (xs ++ n ∷ []) (bytes-to-end vs)
 bytes-more xs ws vs n more r = ap (after xs) (bytes-turn ws vs n more r) ∙ after-more xs n (bytes-to-end vs)
-
-falls : (ws : Words) → at-end ws ≡ false → count (rest ws) < count ws
-falls (end n) e = absurd (true≢false e)
-falls (word n bytes ws) e = omega arith
-
-pub count-falls : (ws vs : Words) (n : ℕ) → at-end ws ≡ false → next-number 255 ws ≡ Ok (n, vs) → count vs < count ws
-count-falls ws vs n more r = rw (sym (number-rest 255 n ws vs r)) (falls ws more)
 
 -- THE PIXELS OF A ROW, of which i are read
 one-left : (count i : ℕ) → i < count → count - i ≡ suc (count - (i + 1))

@@ -1,14 +1,13 @@
 -- What is written reads back: the words of a line are those that it was written from, and the digits of a number mean that number.
 use mathlib.Core.Bool.{Bool, true, false, not, _&&_}
 use mathlib.Core.List.{List, [], _∷_, _++_, append-assoc, append-nil, map}
-use mathlib.Core.Path.{_≡_, refl, sym, ap, subst, _∙_}
-use Prim.Native.Nat.{ℕ, suc, _+_, _-_, _*_, _^_, _≤_, _<_}
+use mathlib.Core.Path.{_≡_, refl, ap, _∙_}
+use Prim.Native.Nat.{ℕ, suc, _+_, _-_, _^_, _≤_, _<_}
 use native.Mathlib.Nat.{add-zero}
-use native.Mathlib.Numerals.{add-one}
 use native.Mathlib.Omega.{arith}
 use borrow.Author.Needs.{needs}
 use lib.Chars.{codes}
-use lib.Dec.{eqb, leb, ltb}
+use lib.Dec.{eqb, leb}
 use lib.ListN.{length}
 use Rattle.std.proofs.shelf.Decimals.{decimal-some, digits-decimal, value-decimal}
 use Rattle.std.proofs.shelf.Numerals.{Numerals, numerals-by-fold}
@@ -21,15 +20,11 @@ use Rattle.std.specs.shelf.Lists.{All}
 use Rattle.std.specs.shelf.Text.{allDigits, sameBytes}
 use Rattle.text.proofs.Cutting.{at-byte, at-end, at-space}
 use Rattle.text.specs.declared.forms.Header.{Header}
-use Rattle.text.specs.Line.{Words, end, word, closed, words, words-from, value, value-after, number-of, next-is, next-number}
+use Rattle.text.specs.Line.{Words, end, word, closed, words, words-from, value, value-after, number-of, next-is}
+use Rattle.text.specs.Promise.{Plain}
 use Rattle.text.specs.Text.{PacketFields, bytes-to-end, header-of, header-text, header-words, line-of, packet-of, packet-text, packet-words, pixels-of, row-of, row-text, spaced, worst-of, worst-text}
 
 -- THE WORDS OF A LINE
--- a word of one byte or more, none of which is a space
-pub record Plain (w : List ℕ) : Type 0 where
-  pub some : 0 < length w
-  pub no-space : All (λ c. c ≡ 32 → ⊥) w
-
 -- the words of a line that is written from ws, at their offsets
 abbrev after : ℕ → List (List ℕ) → Words
 after n [] = end n
@@ -82,9 +77,6 @@ module _ (n : ℕ) (h : n < 2 ^ 64) where
       let same : value (decimal n) ≡ n = value-decimal own n h in
       rw (lt-ltb 0 (length (decimal n)) (decimal-some n h), digits-decimal own n h, same, le-leb n limit l)
 
-  number-read : (limit m : ℕ) (ws : Words) → n ≤ limit → next-number limit (word m (decimal n) ws) ≡ Ok (n, ws)
-  number-read limit m ws l = rw (number-decimal limit l)
-
 plain-numbers : (ns : List ℕ) → All (λ n. n < 256) ns → All Plain (map decimal ns)
 plain-numbers [] h = tt
 plain-numbers (n ∷ ns) h = (plain-number n (omega (arith, h .0)), plain-numbers ns (h .1))
@@ -115,7 +107,7 @@ not-key (c ∷ cs) h =
 pub header-back : (h : Header) → h .across < 2 ^ 64 → h .down < 2 ^ 64 → h .step < 2 ^ 64 → header-of (header-text h) ≡ Ok h
 header-back h a d s =
     let plain : All Plain (header-words h) =
-        (plain-keyword _ _ refl, (plain-number _ a, (plain-number _ d, (plain-keyword _ _ refl, (plain-number _ s, tt))))) in
+    (plain-keyword _ _ refl, (plain-number _ a, (plain-number _ d, (plain-keyword _ _ refl, (plain-number _ s, tt))))) in
     rw (words-line (header-words h) plain, number-decimal (h .across) a (2 ^ 64 - 1) (omega arith), number-decimal (h .down) d (2 ^ 64 - 1) (omega arith), number-decimal (h .step) s (2 ^ 64 - 1) (omega arith))
 
 pub worst-back : (distance : ℕ) → distance < 256 → worst-of (worst-text distance) ≡ Ok distance

@@ -1,7 +1,7 @@
 -- Numbers are written one after another, each with a space before it.
 use mathlib.Core.Bool.{Bool, true, false}
 use mathlib.Core.List.{List, [], _∷_, _++_, append-assoc, append-nil, map}
-use mathlib.Core.Path.{_≡_, refl, sym, ap, _∙_}
+use mathlib.Core.Path.{_≡_, sym, ap, _∙_}
 use Prim.Native.Nat.{ℕ, _+_, _≤_, _<_}
 use lib.Chars.{codes}
 use lib.ListN.{length, getD, drop}
@@ -29,8 +29,8 @@ row-none row line h e = e ∙ ap row-text (sym (nil-from-length row h))
 
 -- a packet's line, from its start and the bytes after it
 module _ (number : ℕ) (key : Bool) (bytes : List ℕ) (front start line : List ℕ) (is-number : front ≡ decimal number) (adds : line ≡ start ++ spaced (map decimal bytes)) where
-  pub packet-key : key ≡ true → start ≡ front ++ codes " key" → line ≡ packet-text (record { number = number; key = key; bytes = bytes })
-  packet-key k e = rw (adds, e, is-number, k) (append-assoc (decimal number) (codes " key") (spaced (map decimal bytes)))
+  pub packet-key : (mid : List ℕ) → key ≡ true → mid ≡ front ++ codes " key" → start ≡ mid → line ≡ packet-text (record { number = number; key = key; bytes = bytes })
+  packet-key mid k d e = rw (adds, e, d, is-number, k) (append-assoc (decimal number) (codes " key") (spaced (map decimal bytes)))
 
   pub packet-plain : key ≡ false → start ≡ front → line ≡ packet-text (record { number = number; key = key; bytes = bytes })
   packet-plain k e = rw (adds, e, is-number, k)

@@ -2,7 +2,7 @@
 use mathlib.Core.Bool.{Bool, true, false, cond, _&&_}
 use mathlib.Core.List.{List, [], _∷_, _++_}
 use mathlib.Core.Path.{_≡_, refl, sym, ap, _∙_}
-use Prim.Native.Nat.{ℕ, suc, _+_, _≤_, _<_}
+use Prim.Native.Nat.{ℕ, suc, _≤_, _<_}
 use native.Mathlib.Omega.{arith}
 use lib.Dec.{eqb, leb, ltb}
 use lib.ListN.{length}
@@ -17,7 +17,7 @@ use Rattle.std.specs.declared.option.Option.{Option}
 use Rattle.std.specs.declared.option.Option.the-variants.{None, Some}
 use Rattle.std.specs.declared.result.Result.{Result}
 use Rattle.std.specs.declared.result.Result.the-variants.{Ok, Err}
-use Rattle.std.specs.shelf.Text.{allDigits, sameBytes}
+use Rattle.std.specs.shelf.Text.{allDigits}
 use Rattle.text.specs.declared.reader.LineReader.{LineReader}
 use Rattle.text.specs.Line.{Words, end, word, closed, words-from, left, bytes-of, position, rest, number-of, value, or-rejected, next-number, next-is, next-keyword, at-end}
 
@@ -52,7 +52,7 @@ unfolding number-of
 number-within limit n ws vs e =
     let bytes = bytes-of ws in
     let small : (ltb 0 (length bytes) && (allDigits bytes && leb (value bytes) limit)) ≡ true → value bytes ≤ limit =
-        λ t. leb-true (value bytes) limit (and-parts (allDigits bytes) _ (and-parts (ltb 0 (length bytes)) _ t .1) .1) in
+    λ t. leb-true (value bytes) limit (and-parts (allDigits bytes) _ (and-parts (ltb 0 (length bytes)) _ t .1) .1) in
     by-test limit n (value bytes) ws vs _ small e
 
 -- and leaves the words after it

@@ -1,3 +1,4 @@
 pub mod Line
 pub mod Promise
 pub mod Text
+pub mod Placing

@@ -18,12 +18,12 @@ pub data Words : Type 0 where
   end : ℕ → Words
   word : ℕ → List ℕ → Words → Words
 
--- the words from a word on that ends at this offset, if it has a byte
+-- a word that ends at this offset, if it has a byte, and the words after it
 abbrev pub closed : (bytes : List ℕ) → (offset : ℕ) → Words → Words
 closed [] offset ws = ws
 closed (c ∷ cs) offset ws = word (offset - length (c ∷ cs)) (c ∷ cs) ws
 
--- the words of what stands at this offset, after the bytes of a word that is not yet at its end
+-- the words of what stands from this offset on, after bytes that begin a word or none
 unfoldable pub words-from : (bytes : List ℕ) → (offset : ℕ) → List ℕ → Words
 words-from bytes offset [] = closed bytes offset (end offset)
 words-from bytes offset (c ∷ cs) =

@@ -35,11 +35,11 @@ line-of (w ∷ ws) = w ++ spaced ws
 -- THE HEADER
 abbrev pub header-of : List ℕ → Result Header Rejection
 header-of line =
-    then (next-keyword (codes "size") (words line)) λ a.
-    then (next-number (2 ^ 64 - 1) (a .1)) λ across.
+    then (next-keyword (codes "size") (words line)) λ size.
+    then (next-number (2 ^ 64 - 1) (size .1)) λ across.
     then (next-number (2 ^ 64 - 1) (across .1)) λ down.
-    then (next-keyword (codes "step") (down .1)) λ b.
-    then (next-number (2 ^ 64 - 1) (b .1)) λ step.
+    then (next-keyword (codes "step") (down .1)) λ keyword.
+    then (next-number (2 ^ 64 - 1) (keyword .1)) λ step.
     then (no-more (step .1)) λ _.
     Ok (record { across = across .0; down = down .0; step = step .0 })
 
@@ -94,7 +94,7 @@ packet-words p = decimal (p .number) ∷ (cond (p .key) (codes "key" ∷ []) [] 
 abbrev pub packet-text : PacketFields → List ℕ
 packet-text p = line-of (packet-words p)
 
--- what is answered where memory can run out: it is no word on the line
+-- what is answered where memory can run out, which says nothing of the line
 abbrev pub Reads : {A B : Type 0} → (A → B) → Result B Rejection → Result A TextError → Type 0
 Reads value meant (Ok x) = meant ≡ Ok (value x)
 Reads value meant (Err (Rejected e)) = meant ≡ Err e
@@ -102,7 +102,7 @@ Reads value meant (Err OutOfMemory) = Unit {0}
 
 -- LINES OF THEIR OWN: `key`, and the distance of a picture's worst pixel
 abbrev pub key-line : List ℕ → Bool
-key-line line = isOk (then (next-keyword (codes "key") (words line)) λ a. no-more (a .1))
+key-line line = isOk (then (next-keyword (codes "key") (words line)) λ key. no-more (key .1))
 
 abbrev pub blank-line : List ℕ → Bool
 blank-line line = at-end (words line)
@@ -112,8 +112,8 @@ worst-line line = next-is (codes "worst") (words line)
 
 abbrev pub worst-of : List ℕ → Result ℕ Rejection
 worst-of line =
-    then (next-keyword (codes "worst") (words line)) λ a.
-    then (next-number 255 (a .1)) λ distance.
+    then (next-keyword (codes "worst") (words line)) λ worst.
+    then (next-number 255 (worst .1)) λ distance.
     then (no-more (distance .1)) λ _.
     Ok (distance .0)
 

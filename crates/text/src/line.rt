@@ -1,3 +1,4 @@
+// The steps of a reader: a number, a keyword, the end of the line. What is rejected is rejected at the word's position.
 ghost use mathlib.Core.Bool.{cond};
 ghost use mathlib.Core.Path.{_≡_};
 ghost use Prim.Native.Nat.{_<_};
@@ -56,6 +57,7 @@ impl<'a> LineReader<'a> {
         }
     }
 
+    // The next word as a pixel, or as one of a frame's bytes.
     pub(crate) fn byte(&mut self) -> Result<u8, Rejection>
         ensures { λ r. ⌜ next-number 255 (left (now (self .entry))) ≡ answered r (left (now (self .exit))) ⌝ }
     {

@@ -1,7 +1,6 @@
 // What a line means. A line that has no meaning is rejected at its first bad word.
 ghost use mathlib.Core.Bool.{true};
 ghost use mathlib.Core.Path.{_≡_};
-ghost use Prim.Native.Nat.{_^_};
 ghost use lib.ListN.{length};
 ghost use Rattle.std.specs.Of.Vec.{vec-items};
 ghost use Rattle.std.specs.Results.{isOk};
@@ -32,7 +31,7 @@ pub fn parse_header(line: &str) -> Result<Header, Rejection>
     Ok(Header { across, down, step })
 }
 
-// Fills the row. A line that is rejected leaves it as it was.
+// Fills the row with as many numbers. The line is checked first, since one that is rejected leaves the row as it was.
 pub fn parse_row(line: &str, row: &mut [u8]) -> Result<(), Rejection>
     ensures answer { λ r. ⌜ r ≡ outcome (row-of (length (now (row .entry))) (now (line .entry))) ⌝ }
     ensures row { λ _. ⌜ now (row .exit) ≡ row-after (row-of (length (now (row .entry))) (now (line .entry))) (now (row .entry)) ⌝ }

@@ -27,7 +27,12 @@ pub fn write_row(heap: Global, row: &[u8]) -> Result<String, AllocError>
     Ok(line)
 }
 
-pub fn write_packet(heap: Global, number: u64, key: bool, bytes: &[u8]) -> Result<String, AllocError>
+pub fn write_packet(
+    heap: Global,
+    number: u64,
+    key: bool,
+    bytes: &[u8],
+) -> Result<String, AllocError>
     ensures { λ r. ⌜ made r (λ line. string-bytes line ≡ packet-text (record { number = number; key = key; bytes = now (bytes .entry) })) ⌝ }
 {
     let mut line = number.to_string(heap)?;

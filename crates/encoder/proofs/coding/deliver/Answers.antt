@@ -18,16 +18,18 @@ copied bytes front rest e = ap (λ xs. take (length bytes) (xs ++ rest)) e ∙ t
 pub returns-then-length-buffer : need.returns-then-length-buffer
 returns-then-length-buffer c =
     let f = format-of (c .args .format) in
-    let bytes = c .finish-bytes .result .now in
-    (refl,
-     omega (arith, fits f (c .args .header .key) (c .args .source .now) (c .args .reference .now) (c .args .writer .now) (c .args .picture .now) (c .pre .picture) (c .pre .encoded) bytes (c .finish-bytes .ensures)),
-     refl,
-     refl,
-     record {
-       bytes = bytes;
-       picture = c .args .picture .now;
-       coded = coded f (c .args .header .key) (c .args .source .now) (c .args .reference .now) (c .args .writer .now) (c .args .picture .now) (c .pre .picture) (c .pre .encoded) bytes (c .finish-bytes .ensures);
-       longer = c .if-length-buffer .taken })
+    let bytes = c .finish-bytes .result .now in (
+      refl,
+      omega (arith, fits f (c .args .header .key) (c .args .source .now) (c .args .reference .now) (c .args .writer .now) (c .args .picture .now) (c .pre .picture) (c .pre .encoded) bytes (c .finish-bytes .ensures)),
+      refl,
+      refl,
+      record {
+        bytes = bytes;
+        picture = c .args .picture .now;
+        coded = coded f (c .args .header .key) (c .args .source .now) (c .args .reference .now) (c .args .writer .now) (c .args .picture .now) (c .pre .picture) (c .pre .encoded) bytes (c .finish-bytes .ensures);
+        longer = c .if-length-buffer .taken;
+      },
+    )
 
 pub returns : need.returns
 returns c =

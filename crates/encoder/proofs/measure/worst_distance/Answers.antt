@@ -22,11 +22,13 @@ further f i worst before = go (cases-lt worst (f i)) before
 pub loop-i-again : need.loop-i-again
 loop-i-again c =
     let far : ℕ → ℕ = λ k. distance (getD (c .args .picture .now) k 0) (getD (c .args .source .now) k 0) in
-    let e : c .max-worst .result ≡ max (c .loop-i .worst) (far (c .loop-i .i)) = c .max-worst .ensures ∙ ap (max (c .loop-i .worst)) (c .distance .ensures) in
-    (below-more (λ k. far k ≤ c .max-worst .result) (c .loop-i .i) (λ k l. omega (arith, e, c .loop-i .inv .0 k l)) (omega (arith, e)),
-     subst (λ m. (m ≡ 0) ⊎ ((k : ℕ) × (k < c .loop-i .i + 1) × (far k ≡ m))) (sym e) (further far (c .loop-i .i) (c .loop-i .worst) (c .loop-i .inv .1)))
+    let e : c .max-worst .result ≡ max (c .loop-i .worst) (far (c .loop-i .i)) = c .max-worst .ensures ∙ ap (max (c .loop-i .worst)) (c .distance .ensures) in (
+      below-more (λ k. far k ≤ c .max-worst .result) (c .loop-i .i) (λ k l. omega (arith, e, c .loop-i .inv .0 k l)) (omega (arith, e)),
+      subst (λ m. (m ≡ 0) ⊎ ((k : ℕ) × (k < c .loop-i .i + 1) × (far k ≡ m))) (sym e) (further far (c .loop-i .i) (c .loop-i .worst) (c .loop-i .inv .1)),
+    )
 
 pub returns : need.returns
 returns c = record {
-    most = λ i l h. c .loop-i .inv .0 i (omega (arith, c .min-i-end .ensures));
-    some = elim (c .loop-i .inv .1) [ inl z ↦ inl z | inr w ↦ inr (w .0, omega (arith, w .1, c .min-i-end .ensures), omega (arith, w .1, c .min-i-end .ensures), w .2) ] }
+  most = λ i l h. c .loop-i .inv .0 i (omega (arith, c .min-i-end .ensures));
+  some = elim (c .loop-i .inv .1) [ inl z ↦ inl z | inr w ↦ inr (w .0, omega (arith, w .1, c .min-i-end .ensures), omega (arith, w .1, c .min-i-end .ensures), w .2) ];
+}

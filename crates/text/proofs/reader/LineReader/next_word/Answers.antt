@@ -21,8 +21,9 @@ pub returns : need.returns
 returns c =
     let reader = c .loop-self .self in
     let found : Next (now (reader .line)) (c .skip-spaces .last .self .offset) (reader .offset) (left (c .args .self .now)) =
-        subst (Next _ _ _) (c .skip-spaces .ensures .same)
-        (elim (c .loop-self-test .came) [
-          then-loop-self-test·else-self-ne32 w ↦ at-line-space _ _ _ _ (c .loop-self .inv) (reader .within) (w .loop-self-test .taken) (w .if-self-ne32 .left)
-        | else-loop-self-test w ↦ at-line-end _ _ _ _ (c .loop-self .inv) (reader .within) (w .loop-self-test .left) ]) in
+    subst (Next _ _ _) (c .skip-spaces .ensures .same)
+    (elim (c .loop-self-test .came) [
+      | then-loop-self-test·else-self-ne32 w ↦ at-line-space _ _ _ _ (c .loop-self .inv) (reader .within) (w .loop-self-test .taken) (w .if-self-ne32 .left)
+      | else-loop-self-test w ↦ at-line-end _ _ _ _ (c .loop-self .inv) (reader .within) (w .loop-self-test .left)
+    ]) in
     record { position = found .position; bytes = found .bytes; rest = found .rest }
