@@ -1,0 +1,9 @@
+pub mod Feeding
+pub mod FirstLine
+pub mod Groups
+pub mod Packets
+pub mod Pieces
+pub mod Placing
+pub mod Playing
+pub mod ReadBack
+pub mod Varints
