@@ -2,3 +2,4 @@ pub mod Steps
 pub mod Knowing
 pub mod Standing
 pub mod Screens
+pub mod OverRuns

@@ -1,3 +1,4 @@
 pub mod Receiver
 pub mod Promise
 pub mod Screen
+pub mod Runs

@@ -1,5 +1,6 @@
 // The theorems about receivers, each as a contract.
 ghost use Rattle.stream.specs.Promise.{AlwaysSome, GoesOn, LateIgnored, LensToEye, NextMoves, Recovers, ShownIsTrue, SureIsTrue, SureOfSome};
+ghost use Rattle.stream.specs.Runs.{LensToEyeOverRuns};
 
 pub fn sure_is_true() -> u8
     ensures sure { λ _. ⌜ SureIsTrue ⌝ }
@@ -20,7 +21,8 @@ pub fn receiver_steps() -> u8
 }
 
 pub fn lens_to_eye() -> u8
-    ensures { λ _. ⌜ LensToEye ⌝ }
+    ensures definitions { λ _. ⌜ LensToEye ⌝ }
+    ensures runs { λ _. ⌜ LensToEyeOverRuns ⌝ }
 {
     0
 }
