@@ -1,14 +1,17 @@
 // Pictures are gathered row by row, and coded as soon as they are whole.
+use crate::output::Output;
+use crate::output::refusal;
+use crate::output::write_packet;
 use encoder::Encoder;
 use frame::Format;
 use frame::Rejection;
-use frame::RejectionDisplay;
 use std::alloc::Global;
 use std::error::AnyError;
 
 #[derive(Drop)]
 pub struct Session {
     encoder: Encoder,
+    output: Output,
     width: usize,
     // The picture's pixels, of which the first `filled` are read, and room for its frame.
     source: Vec<u8>,
@@ -18,15 +21,11 @@ pub struct Session {
     key: bool,
 }
 
-// What a rejection says, as an error of the program.
-pub fn refusal(heap: Global, rejection: Rejection) -> Result<AnyError, AnyError> {
-    Ok(format!(heap, "{rejection}")?.as_str().into())
-}
-
-// Codes a picture, and writes its packet and how far its worst pixel is off.
+// Codes a picture, and writes its packet.
 fn code_picture(
     rt: &LibcRuntime,
     encoder: &mut Encoder,
+    output: &mut Output,
     source: &[u8],
     key: bool,
     buffer: &mut [u8],
@@ -37,18 +36,17 @@ fn code_picture(
         Err(rejection) => return Err(refusal(heap, rejection)?),
     };
     let bytes = &buffer[0..pushed.length.min(buffer.len())];
-    rt.println(text::write_packet(heap, pushed.number, pushed.key, bytes)?)?;
     let worst = encoder::worst_distance(encoder.picture(), source);
-    rt.println(text::write_worst(heap, worst)?)?;
-    Ok(())
+    write_packet(rt, output, pushed, bytes, worst)
 }
 
 impl Session {
-    pub fn new(heap: Global, format: Format) -> Result<Session, AnyError> {
+    pub fn new(heap: Global, format: Format, output: Output) -> Result<Session, AnyError> {
         let source = vec![in heap; 0u8; format.pixel_count()]?;
         let buffer = vec![in heap; 0u8; encoder::worst_case_size(format)]?;
         Ok(Session {
             encoder: Encoder::new(format),
+            output,
             width: 4 * format.across(),
             source,
             filled: 0,
@@ -89,11 +87,12 @@ impl Session {
         }
     }
 
-    // Codes the picture that was read, and writes its packet and how far its worst pixel is off.
+    // Codes the picture that was read, and writes its packet.
     fn code(&mut self, rt: &LibcRuntime) -> Result<(), AnyError> {
         code_picture(
             rt,
             &mut self.encoder,
+            &mut self.output,
             &self.source,
             self.key,
             &mut self.buffer,

@@ -1,7 +1,10 @@
-//! Plays a video: reads packets as text from standard input, and says for each what the screen shows.
+//! Plays a video: reads packets as text from standard input or from a video file, and says for each what the screen shows.
+mod file;
+mod screen_text;
+
 use frame::FrameHeader;
-use frame::Rejection;
-use frame::RejectionDisplay;
+use screen_text::refusal;
+use screen_text::tell;
 use std::alloc::Global;
 use std::env;
 use std::error::AnyError;
@@ -10,25 +13,36 @@ use std::io::BufReader;
 use stream::Screen;
 use text::TextError;
 
-// What a rejection says, as an error of the program.
-fn refusal(heap: Global, rejection: Rejection) -> Result<AnyError, AnyError> {
-    Ok(format!(heap, "{rejection}")?.as_str().into())
+const HELP: &str = "play [FILE] [show]
+Reads packets as text from standard input, or in binary from a video file, and says for each what the screen shows:
+`sure 3`, `unsure, 3 shown` or `unsure, none shown`. With `show` it prints the pictures too.";
+
+// What the words after the program's name ask for: whether to print pictures, and which file to read.
+#[derive(Drop)]
+struct Wish {
+    help: bool,
+    show: bool,
+    path: Option<String>,
 }
 
-// Whether the pictures are to be printed too.
-fn wants_pictures(rt: &LibcRuntime) -> Result<bool, AnyError> {
+fn read_wish(rt: &LibcRuntime) -> Result<Wish, AnyError> {
     let mut words = env::args(rt)?;
     let _ = words.next();
-    match words.next() {
-        None => Ok(false),
-        Some(word) => {
-            if word.as_str() == "show" {
-                Ok(true)
-            } else {
-                Err("play reads packets from standard input; the one word it takes is: show".into())
-            }
+    let mut wish = Wish {
+        help: false,
+        show: false,
+        path: None,
+    };
+    for word in words {
+        if word.as_str() == "--help" {
+            wish.help = true;
+        } else if word.as_str() == "show" {
+            wish.show = true;
+        } else {
+            wish.path = Some(word);
         }
     }
+    Ok(wish)
 }
 
 // Receives the packet that a line says.
@@ -47,30 +61,9 @@ fn receive(heap: Global, screen: &mut Screen, line: &str, offset: u64) -> Result
     }
 }
 
-// Says what the screen shows, and whether it is sure of it.
-fn tell(rt: &LibcRuntime, screen: &Screen) -> Result<(), AnyError> {
+// Plays packets that are lines of text.
+fn play_text(rt: &LibcRuntime, show: bool) -> Result<(), AnyError> {
     let heap = rt.alloc();
-    let line = match screen.shown() {
-        Some(number) if screen.sure() => text::write_sure(heap, number)?,
-        shown => text::write_unsure(heap, shown)?,
-    };
-    rt.println(line)?;
-    Ok(())
-}
-
-fn print_picture(rt: &LibcRuntime, screen: &Screen, width: usize) -> Result<(), AnyError> {
-    if width == 0 {
-        return Ok(());
-    }
-    for row in screen.picture().chunks(width) {
-        rt.println(text::write_row(rt.alloc(), row)?)?;
-    }
-    Ok(())
-}
-
-fn run(rt: &LibcRuntime) -> Result<(), AnyError> {
-    let heap = rt.alloc();
-    let show = wants_pictures(rt)?;
     let mut lines = BufReader::new(rt.stdin()).lines(heap);
     let Some(first) = lines.next() else {
         return Err("the first line should be: size A D step S".into());
@@ -80,6 +73,7 @@ fn run(rt: &LibcRuntime) -> Result<(), AnyError> {
         Ok(format) => format,
         Err(rejection) => return Err(refusal(heap, rejection)?),
     };
+    let width = if show { 4 * format.across() } else { 0 };
     let mut screen = Screen::new(format);
     let mut offset = first.len() as u64;
     for line in lines {
@@ -87,14 +81,23 @@ fn run(rt: &LibcRuntime) -> Result<(), AnyError> {
         offset = offset.saturating_add(1);
         if !text::is_blank_line(line.as_str()) && !text::is_worst_line(line.as_str()) {
             receive(heap, &mut screen, line.as_str(), offset)?;
-            tell(rt, &screen)?;
-            if show {
-                print_picture(rt, &screen, 4 * format.across())?;
-            }
+            tell(rt, &screen, width)?;
         }
         offset = offset.saturating_add(line.len() as u64);
     }
     Ok(())
+}
+
+fn run(rt: &LibcRuntime) -> Result<(), AnyError> {
+    let Wish { help, show, path } = read_wish(rt)?;
+    if help {
+        rt.println(HELP)?;
+        return Ok(());
+    }
+    match path {
+        Some(path) => file::play_file(rt, path.as_str(), show),
+        None => play_text(rt, show),
+    }
 }
 
 fn main(rt: LibcRuntime) -> Result<(), AnyError> {
