@@ -1,0 +1,33 @@
+//! Ordinary grey picture formats over bytes: Y4M and PGM, the mark below a played picture, and padding to whole blocks.
+mod error;
+mod forms;
+mod number;
+mod padding;
+mod pgm_parsing;
+mod promises;
+mod strip;
+mod words;
+mod y4m;
+mod y4m_tags;
+
+pub use error::Fault;
+pub use error::PictureError;
+pub use error::PictureErrorDisplay;
+pub use forms::FrameRate;
+pub use forms::Mark;
+pub use forms::Pgm;
+pub use forms::Y4mHeader;
+pub use padding::pad_row;
+pub use padding::padded_size;
+pub use pgm_parsing::parse_pgm;
+pub use promises::cut_at_spaces;
+pub use promises::pads_to_blocks;
+pub use promises::plain_picture;
+pub use promises::reads_back;
+pub use promises::worked_examples;
+pub use strip::MARK_ROWS;
+pub use strip::mark_row;
+pub use y4m::is_y4m_frame_line;
+pub use y4m::parse_y4m_header;
+pub use y4m::write_y4m_header;
+pub use y4m::y4m_frame_line;
