@@ -1,4 +1,6 @@
 //! Bytes as bits: reading them one by one, and adding to the number that they make.
+#![tactic(auto)]
+
 ghost use Rattle.std.specs.Prelude.{◌≡◌, ℕ, ◌+◌, ◌-◌, ◌^◌, ◌<◌, ◌≤◌, ◌⊎◌, length, take, slice_index};
 ghost use Rattle.bits.specs.Bits.{bit, bits_of, byte_prefix, position, skip, unread};
 

@@ -1,4 +1,6 @@
 //! Blocks of four by four pixels: how they are predicted, what levels add, and how they are said.
+#![tactic(auto)]
+
 ghost use Rattle.block.specs.Promise.{LevelsSuffice};
 ghost use Rattle.block.specs.Syntax.{BlockReadBack};
 

@@ -1,4 +1,6 @@
 //! The codec for C: four functions on bytes and numbers, each of which answers with one number.
+#![tactic(auto)]
+
 mod answer;
 mod exports;
 mod packing;

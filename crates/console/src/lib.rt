@@ -1,4 +1,6 @@
 //! What the programs share: where they read from, the words after their names, and how they refuse.
+#![tactic(auto)]
+
 mod arguments;
 mod bytes;
 mod input;

@@ -1,4 +1,6 @@
 //! Video files: a header line, and then packets in binary, one after the other.
+#![tactic(auto)]
+
 mod fault;
 mod header;
 mod packet;

@@ -1,5 +1,7 @@
 //! Codes pictures into a video: reads a Y4M stream, PGM pictures or a text, and writes packets as text to standard output
 //! or in binary to a video file.
+#![tactic(auto)]
+
 mod coder;
 mod packets;
 mod picture_file;

@@ -1,4 +1,6 @@
 //! The encoder: it chooses a block for each place, writes it, and keeps the picture that its bytes mean.
+#![tactic(auto)]
+
 mod choice;
 mod coding;
 mod encoding;

@@ -1,4 +1,6 @@
 //! Frames: blocks row by row, and the picture that they show.
+#![tactic(auto)]
+
 mod checks;
 mod decoding;
 mod drawing;

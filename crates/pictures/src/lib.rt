@@ -1,4 +1,6 @@
 //! Ordinary grey picture formats over bytes: Y4M and PGM, the mark below a played picture, and padding to whole blocks.
+#![tactic(auto)]
+
 mod error;
 mod forms;
 mod key_frames;

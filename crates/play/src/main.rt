@@ -1,5 +1,7 @@
 //! Plays a video: reads packets as text from standard input or from a video file, and shows for each what the screen
 //! shows, as text or as a Y4M stream.
+#![tactic(auto)]
+
 mod film;
 mod view;
 mod wish;

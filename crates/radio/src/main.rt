@@ -1,5 +1,7 @@
 //! A radio to try the codec on: passes packets on from standard input, but loses, doubles and delays some.
 //! The same seed does the same again.
+#![tactic(auto)]
+
 mod air;
 mod chance;
 mod wish;

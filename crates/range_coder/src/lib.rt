@@ -1,4 +1,6 @@
 //! A binary range coder with adaptive contexts: decisions read from bytes, and written to them.
+#![tactic(auto)]
+
 ghost use Rattle.range_coder.specs.Promise.{LimitsKept, ReadBack};
 
 mod adapting;

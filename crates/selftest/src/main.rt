@@ -1,4 +1,6 @@
 //! Runs many cases through the codec's public functions, and prints for each group how many passed.
+#![tactic(auto)]
+
 mod blocks;
 mod examples;
 mod frames;

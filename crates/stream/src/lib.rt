@@ -1,4 +1,6 @@
 //! Packets, the receiver that shows them, and what it may be trusted in.
+#![tactic(auto)]
+
 mod promises;
 mod receiver;
 mod receiving;

@@ -1,4 +1,6 @@
 //! Numbers, signed numbers and levels out of binary decisions.
+#![tactic(auto)]
+
 ghost use Rattle.symbols.specs.Promise.{SymbolsReadBack};
 
 mod class;

@@ -1,4 +1,6 @@
 //! The text forms that programs read and write: lines of words between spaces.
+#![tactic(auto)]
+
 mod error;
 mod forms;
 mod line;
