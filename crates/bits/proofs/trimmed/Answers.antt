@@ -16,9 +16,9 @@ last_taken bytes k n e within (inr h) = go k refl
 
 pub returns : goal.returns
 returns c =
-    let k = c.trimmed-length-kept.result in
+    let k = c.trimmed_length-kept.result in
     let bytes = c.args.bytes.now in
-    let t = c.trimmed-length-kept.ensures in
+    let t = c.trimmed_length-kept.ensures in
     let z : k - 0 ≡ k = omega arith in
     rw z (record {
       within = omega (arith, length-take-le k bytes t.short, t.within);
