@@ -3,4 +3,4 @@ use Rattle.block.proofs.closeness.distance.Goals as goal
 
 pub returns : goal.returns
 unfolding distance
-returns c = c.abs-diff.ensures
+returns c = c.abs_diff.ensures

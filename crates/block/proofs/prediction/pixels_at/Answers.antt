@@ -9,7 +9,7 @@ loop-y-init c = record { sixteen = refl; pixel = λ x y _ none. absurd (omega ar
 pub loop-y-preserved : goal.loop-y-preserved
 loop-y-preserved c =
     row_put c.loop-y.y (λ x y. picture_in c.args.width c.args.reference.now (c.args.column + x) (c.args.row + y))
-    c.loop-y.pixels c.four-pixels.result c.loop-y-test.true c.loop-y.invariant
-    (λ x below. c.four-pixels.ensures x below ∙
+    c.loop-y.pixels c.four_pixels.result c.loop-y-test.true c.loop-y.invariant
+    (λ x below. c.four_pixels.ensures x below ∙
     simp (c.from.ensures, c.from-2.ensures, c.from-stride.ensures)
     (ap (λ i. get_or c.args.reference.now i 0) (index_from_first c.args.width c.args.column c.args.row x c.loop-y.y)))

@@ -28,7 +28,7 @@ returns-in-ok-row c =
     let across = simp to_z-of_z at c.in-ok-column.ensures in
     let down = simp to_z-of_z at c.in-ok-row.ensures in (
       stays_inside c.args.size c.args.left c.args.top _ _ c.in-Motion.is across.0 down.0,
-      λ x y h k. c.pixels-at.ensures x y h k ∙
+      λ x y h k. c.pixels_at.ensures x y h k ∙
           moved_pixel c.args.size c.args.left c.args.top _ _ c.in-Motion.is
           (picture_in c.args.size.width c.args.reference.now) _ _ x y across.1 down.1,
     )

@@ -4,10 +4,10 @@ use Rattle.std.proofs.Common.{rules}
 
 pub returns : goal.returns
 returns c = record {
-  read = block_read c.args.key _ _ _ _ _ c.read-prediction-prediction.ensures.read c.read-residual-levels.ensures.read;
+  read = block_read c.args.key _ _ _ _ _ c.read_prediction-prediction.ensures.read c.read_residual-levels.ensures.read;
   sayable = record {
-    prediction = c.read-prediction-prediction.ensures.sayable;
+    prediction = c.read_prediction-prediction.ensures.sayable;
     sixteen = search rules;
-    levels = c.read-residual-levels.ensures.sayable;
+    levels = c.read_residual-levels.ensures.sayable;
   };
 }

@@ -4,8 +4,8 @@ use Rattle.block.proofs.syntax.read_residual.Goals as goal
 
 pub returns-then-adaptive : goal.returns-then-adaptive
 returns-then-adaptive c = record {
-  read = levels_read _ _ _ _ c.if-adaptive.ensures c.read-levels.ensures.read;
-  sayable = c.read-levels.ensures.small;
+  read = levels_read _ _ _ _ c.if-adaptive.ensures c.read_levels.ensures.read;
+  sayable = c.read_levels.ensures.small;
 }
 
 pub returns-else-adaptive : goal.returns-else-adaptive

@@ -7,8 +7,8 @@ use Rattle.block.proofs.syntax.write_prediction.Goals.{then-not-key, else-not-ke
 pub returns-after-not-key : goal.returns-after-not-key
 returns-after-not-key c = elim c.if-not-key.branch [
   | then-not-key w ↦
-      simp (c.in-Flat.is, w.if-not-key.true) (flat_written _ _ _ _ w.adaptive.ensures (simp w.writer-is at c.write-byte.ensures))
-  | else-not-key w ↦ simp (c.in-Flat.is, w.if-not-key.false) (flat_written_in_key _ _ _ (simp w.writer-is at c.write-byte.ensures))
+      simp (c.in-Flat.is, w.if-not-key.true) (flat_written _ _ _ _ w.adaptive.ensures (simp w.writer-is at c.write_byte.ensures))
+  | else-not-key w ↦ simp (c.in-Flat.is, w.if-not-key.false) (flat_written_in_key _ _ _ (simp w.writer-is at c.write_byte.ensures))
 ]
 
 pub returns-in-Motion : goal.returns-in-Motion
@@ -17,4 +17,4 @@ returns-in-Motion c =
     let y_fits : SFits w32 c.in-Motion.vector.dy = search rules in
     simp c.in-Motion.is
     (motion_written c.args.key c.in-Motion.vector _ _ _ _ c.adaptive-in-Motion.ensures
-    (simp to_z-of_z at c.write-signed.ensures) (simp to_z-of_z at c.write-signed-in-Motion.ensures))
+    (simp to_z-of_z at c.write_signed.ensures) (simp to_z-of_z at c.write_signed-in-Motion.ensures))

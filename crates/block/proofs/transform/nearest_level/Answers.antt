@@ -12,4 +12,4 @@ unfolding nearest
 returns c =
     let sum : to_z w64 (of_z w64 (to_z w64 (of_z w64 c.args.coefficient) +ℤ to_z w64 (of_z w64 c.from.result))) ≡ c.args.coefficient +ℤ pos (c.args.step.value / 2) = omega (arith, ints) in
     let step : to_z w64 (of_z w64 c.from-2.result) ≡ pos c.args.step.value = omega (arith, ints) in
-    narrowed c.div-euclid.result _ (c.div-euclid.ensures ∙ rw (sum, step)) (nearest_small c.args.step.value 4080 c.args.coefficient c.args.step.positive c.requires)
+    narrowed c.div_euclid.result _ (c.div_euclid.ensures ∙ rw (sum, step)) (nearest_small c.args.step.value 4080 c.args.coefficient c.args.step.positive c.requires)

@@ -6,8 +6,8 @@ use Rattle.block.proofs.Inverse.{transform_same}
 use Rattle.block.proofs.Suffice.{nearest_close, nearest_within}
 use Rattle.block.proofs.transform.nearest_levels.Goals as goal
 
-pub nearest-level-requires : goal.nearest-level-requires
-nearest-level-requires c = omega (arith, ints, c.transform-block-coefficients.ensures.size 255 c.differences.ensures.small c.loop-i.i c.loop-i-test.true)
+pub nearest_level-requires : goal.nearest_level-requires
+nearest_level-requires c = omega (arith, ints, c.transform_block-coefficients.ensures.size 255 c.differences.ensures.small c.loop-i.i c.loop-i-test.true)
 
 pub returns : goal.returns
 returns c =
@@ -15,7 +15,7 @@ returns c =
     = λ i. let p : Fits w8 (get_or c.args.prediction i 0) = search rules in let s : Fits w8 (get_or c.args.source i 0) = search rules in (p.fits, s.fits) in
     let is : Nearest c.args.step.value c.loop-i.out c.args.prediction c.args.source
     = λ u v hu hv. c.loop-i.invariant.1 (4 * v + u) (omega arith)
-    ∙ ap (nearest c.args.step.value) (c.transform-block-coefficients.ensures.value u v hu hv
+    ∙ ap (nearest c.args.step.value) (c.transform_block-coefficients.ensures.value u v hu hv
     ∙ transform_same (value_in c.differences.result) (difference c.args.prediction c.args.source) u v (λ x y hx hy. c.differences.ensures.value (4 * y + x) (omega arith))) in
     record {
       is = is;

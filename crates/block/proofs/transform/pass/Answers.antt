@@ -4,4 +4,4 @@ use Rattle.block.proofs.transform.pass.Goals as goal
 pub loop-x-preserved : goal.loop-x-preserved
 loop-x-preserved c =
     row_more c.args.rows c.loop-x.out c.loop-x.x c.loop-x-test.true c.requires _ _ _ _
-    c.transform-four-first.ensures.first c.transform-four-first.ensures.second c.transform-four-first.ensures.third c.transform-four-first.ensures.fourth c.loop-x.invariant
+    c.transform_four-first.ensures.first c.transform_four-first.ensures.second c.transform_four-first.ensures.third c.transform_four-first.ensures.fourth c.loop-x.invariant

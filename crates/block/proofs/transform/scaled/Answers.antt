@@ -2,8 +2,8 @@ use Rattle.std.proofs.Common.{◌^◌, ◌≤◌, pos, nat_abs, sym, ap, ◌∙�
 use Rattle.block.proofs.Words.{product_fits, product_is, product_small}
 use Rattle.block.proofs.transform.scaled.Goals as goal
 
-pub overflow-mul-result : goal.overflow-mul-result
-overflow-mul-result c = product_fits c.args.step.value c.args.level _ _ c.args.step.most c.ranges.level (c.from.ensures ∙ ap pos c.value.ensures) c.from-2.ensures
+pub overflow_mul-result : goal.overflow_mul-result
+overflow_mul-result c = product_fits c.args.step.value c.args.level _ _ c.args.step.most c.ranges.level (c.from.ensures ∙ ap pos c.value.ensures) c.from-2.ensures
 
 pub returns : goal.returns
 returns c =

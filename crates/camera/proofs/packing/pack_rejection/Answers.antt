@@ -6,6 +6,6 @@ pub returns-in-SourceLength : goal.returns-in-SourceLength
 unfolding packed
 returns-in-SourceLength c = rw c.in-SourceLength.is
 
-pub returns-in-default : goal.returns-in-default
+pub returns-in_default : goal.returns-in_default
 unfolding packed
-returns-in-default c = rw (other_code c.args.rejection c.in-default.not-SourceLength, c.code.ensures, c.position.ensures)
+returns-in_default c = rw (other_code c.args.rejection c.in_default.not-SourceLength, c.code.ensures, c.position.ensures)

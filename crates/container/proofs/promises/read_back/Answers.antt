@@ -7,6 +7,6 @@ use Rattle.container.proofs.promises.read_back.Goals as goal
 
 pub returns : goal.returns
 returns c = record {
-  header = λ h bytes answer across down step r. header_reads h across down step (c.reads-back.ensures.header h across down step) bytes answer r;
+  header = λ h bytes answer across down step r. header_reads h across down step (c.reads_back.ensures.header h across down step) bytes answer r;
   packets = λ front ps r. plays_played (plays_written (front ++ file_bytes ps) (length front) ps r (drop_at front (file_bytes ps) (length front) refl));
 }

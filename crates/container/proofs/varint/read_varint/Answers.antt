@@ -5,9 +5,9 @@ use Rattle.container.specs.Container.{varint_from}
 use Rattle.container.proofs.Varints.{from_byte, last_some, last_zero, more, no_room, too_large}
 use Rattle.container.proofs.varint.read_varint.Goals as goal
 
-pub returns-in-default : goal.returns-in-default
-returns-in-default c = record {
-  value = from_byte c.args.bytes.now _ _ _ (omega arith) c.loop-index.invariant (too_large _ _ _ _ _ (omega (arith, c.in-default.ensures)));
+pub returns-in_default : goal.returns-in_default
+returns-in_default c = record {
+  value = from_byte c.args.bytes.now _ _ _ (omega arith) c.loop-index.invariant (too_large _ _ _ _ _ (omega (arith, c.in_default.ensures)));
   within = tt;
 }
 
@@ -25,16 +25,16 @@ returns-then-byte-lt128 c = record {
   within = (omega arith, omega arith);
 }
 
-pub returns-in-default-checked-mul : goal.returns-in-default-checked-mul
-returns-in-default-checked-mul c = record {
-  value = from_byte c.args.bytes.now _ _ _ (omega arith) c.loop-index.invariant (no_room _ _ _ _ _ (omega (arith, c.in-Some.ensures)) (omega arith) (omega (arith, c.in-default-checked-mul.ensures)));
+pub returns-in_default-checked_mul : goal.returns-in_default-checked_mul
+returns-in_default-checked_mul c = record {
+  value = from_byte c.args.bytes.now _ _ _ (omega arith) c.loop-index.invariant (no_room _ _ _ _ _ (omega (arith, c.in-Some.ensures)) (omega arith) (omega (arith, c.in_default-checked_mul.ensures)));
   within = tt;
 }
 
 pub loop-index-preserved : goal.loop-index-preserved
 loop-index-preserved c =
-    rw (c.in-Some.ensures.1, c.in-Some-checked-mul.ensures.1, add-one)
-    (from_byte c.args.bytes.now _ _ _ (omega arith) c.loop-index.invariant (more _ _ _ _ _ (omega (arith, c.in-Some.ensures)) (omega arith) (omega (arith, c.in-Some-checked-mul.ensures))))
+    rw (c.in-Some.ensures.1, c.in-Some-checked_mul.ensures.1, add-one)
+    (from_byte c.args.bytes.now _ _ _ (omega arith) c.loop-index.invariant (more _ _ _ _ _ (omega (arith, c.in-Some.ensures)) (omega arith) (omega (arith, c.in-Some-checked_mul.ensures))))
 
 pub returns : goal.returns
 unfolding varint_from

@@ -3,17 +3,17 @@ use Rattle.container.specs.Container.{Packet}
 use Rattle.container.proofs.Placing.{at_file_end, cut_back}
 use Rattle.container.proofs.writing.write_packet.Goals as goal
 
-pub returns-then-is-err : goal.returns-then-is-err
-returns-then-is-err c =
+pub returns-then-is_err : goal.returns-then-is_err
+returns-then-is_err c =
     c.truncate.ensures.items
-    ∙ cut_back (vec_items c.args.out.now) _ c.len-position.result c.in-ok-extend-from-slice.ensures.items
-    (rw c.if-is-err.ensures.negation at c.extend-from-slice-2.ensures.items) (omega arith)
+    ∙ cut_back (vec_items c.args.out.now) _ c.len-position.result c.in-ok-extend_from_slice.ensures.items
+    (rw c.if-is_err.ensures.negation at c.extend_from_slice-2.ensures.items) (omega arith)
 
 pub returns : goal.returns
 returns c =
     let p : Packet = record { number = c.args.number; key = c.args.key; bytes = c.args.bytes.now } in
-    let two = rw c.if-is-err.ensures.negation at c.extend-from-slice-2.ensures.items in (
+    let two = rw c.if-is_err.ensures.negation at c.extend_from_slice-2.ensures.items in (
       omega arith,
-      at_file_end p c.head-bytes-head.result.bytes c.head-bytes-head.result.size c.head-bytes-head.ensures.bytes
-          (vec_items c.args.out.now) {one = vec_items c.extend-from-slice.new.self} c.in-ok-extend-from-slice.ensures.items two,
+      at_file_end p c.head_bytes-head.result.bytes c.head_bytes-head.result.size c.head_bytes-head.ensures.bytes
+          (vec_items c.args.out.now) {one = vec_items c.extend_from_slice.new.self} c.in-ok-extend_from_slice.ensures.items two,
     )

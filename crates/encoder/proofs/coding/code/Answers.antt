@@ -14,5 +14,5 @@ returns-in-Ok c =
     let m = made _ _ c.in-Ok.format c.in-Ok.ensures in
     let P : Format → Type 0 = λ f.
     CodeSays (pictures_rejection (16 * block_count f) c.args.source.now c.args.reference.now c.args.output.now) f c.args.key
-    c.args.source.now c.args.reference.now c.args.buffer.now c.args.output.now c.code-frame.result c.code-frame.new.buffer c.code-frame.new.output in
-    rw m.0 (subst P m.1 c.code-frame.ensures)
+    c.args.source.now c.args.reference.now c.args.buffer.now c.args.output.now c.code_frame.result c.code_frame.new.buffer c.code_frame.new.output in
+    rw m.0 (subst P m.1 c.code_frame.ensures)

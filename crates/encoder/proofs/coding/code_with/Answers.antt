@@ -11,11 +11,11 @@ front pixels written rest e = ap (λ n. take n (written ++ rest)) (let z : pixel
 
 pub deliver-requires : goal.deliver-requires
 deliver-requires c =
-    let n : length c.encode.new.output ≡ c.pixel-count-pixels.result = c.encode.auto.output ∙ simp (length-take, length-drop) (omega (arith, c.pixel-count-pixels.ensures)) in
-    let e = front c.pixel-count-pixels.result c.encode.new.output _ n in
+    let n : length c.encode.new.output ≡ c.pixel_count-pixels.result = c.encode.auto.output ∙ simp (length-take, length-drop) (omega (arith, c.pixel_count-pixels.ensures)) in
+    let e = front c.pixel_count-pixels.result c.encode.new.output _ n in
     record {
       encoded = subst (λ xs. FrameEncoded (format_of c.args.format) c.args.header.key c.args.source.now c.args.reference.now c.args.format.down c.encode.new.writer xs) (sym e)
           (c.encode.ensures c.requires.writer.0 c.requires.writer.1);
-      picture = ap length e ∙ n ∙ c.pixel-count-pixels.ensures;
+      picture = ap length e ∙ n ∙ c.pixel_count-pixels.ensures;
       output = c.requires.output;
     }

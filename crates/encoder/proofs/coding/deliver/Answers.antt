@@ -31,9 +31,9 @@ returns c =
     let f = format_of c.args.format in
     let bytes = c.finish-bytes.result.now in
     let whole = coded f c.args.header.key c.args.source.now c.args.reference.now c.args.writer.now c.args.picture.now c.requires.picture c.requires.encoded bytes c.finish-bytes.ensures in
-    let shown = subst (λ pixels. Coded f c.args.header.key c.args.source.now c.args.reference.now bytes pixels) (sym c.copy-from-slice-2.ensures.after) whole in (
+    let shown = subst (λ pixels. Coded f c.args.header.key c.args.source.now c.args.reference.now bytes pixels) (sym c.copy_from_slice-2.ensures.after) whole in (
       omega arith,
       search (rules, overwrites),
       (λ i l. search (rules, places)),
-      subst (λ xs. Coded f c.args.header.key c.args.source.now c.args.reference.now xs c.copy-from-slice-2.new.self) (sym (copied bytes c.copy-from-slice.new.self _ c.copy-from-slice.ensures.after)) shown,
+      subst (λ xs. Coded f c.args.header.key c.args.source.now c.args.reference.now xs c.copy_from_slice-2.new.self) (sym (copied bytes c.copy_from_slice.new.self _ c.copy_from_slice.ensures.after)) shown,
     )

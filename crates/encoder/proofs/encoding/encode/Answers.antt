@@ -9,22 +9,22 @@ use Rattle.encoder.proofs.encoding.encode.Goals as goal
 pub loop-row-init : goal.loop-row-init
 loop-row-init c e s = frame_none (format_of c.args.format) c.args.header.key c.args.source.now c.args.reference.now c.args.writer.now c.args.output.now e s
 
-pub slice-bounds-encode-row-end : goal.slice-bounds-encode-row-end
-slice-bounds-encode-row-end c =
+pub slice_bounds-encode_row-end : goal.slice_bounds-encode_row-end
+slice_bounds-encode_row-end c =
     let a = c.across-band.ensures in
     omega (arith, mul-le (c.loop-row.row + 1) (16 * c.across-band.result) c.args.format.down (16 * c.across-band.result) (omega arith) (omega arith), mul_comm c.args.format.down c.across-band.result, ap (λ n. n * c.args.format.down) a)
 
 -- the row that was lent on starts within the picture, and is as long as a row of blocks
-module _ (c : goal.After-slice-known-in-loop-row·1) where
+module _ (c : goal.After-slice_known-in-loop-row·1) where
   row_start : c.loop-row.row * (16 * c.across-band.result) ≡ c.loop-row.row * (16 * c.args.format.across)
   row_start = ap (λ n. c.loop-row.row * (16 * n)) c.across-band.ensures
 
   rows_within : (c.loop-row.row + 1) * (16 * c.args.format.across) ≤ length c.loop-row.output
   rows_within = omega (arith, mul-le (c.loop-row.row + 1) (16 * c.args.format.across) c.args.format.down (16 * c.args.format.across) (omega arith) (omega arith))
 
-  row_length : length c.encode-row.new.band ≡ 16 * c.args.format.across
+  row_length : length c.encode_row.new.band ≡ 16 * c.args.format.across
   row_length =
-      let h = c.encode-row.auto.band in
+      let h = c.encode_row.auto.band in
       let e = ap (λ n. (c.loop-row.row + 1) * (16 * n)) c.across-band.ensures in
       let g = length-between c.loop-row.output (c.loop-row.row * (16 * c.across-band.result)) ((c.loop-row.row + 1) * (16 * c.across-band.result)) (omega (arith, rows_within)) in
       omega (arith, row_start)
@@ -33,7 +33,7 @@ pub loop-row-preserved : goal.loop-row-preserved
 loop-row-preserved c e s =
     let g = c.loop-row.invariant e s in
     frame_more (format_of c.args.format) c.args.header.key c.args.source.now c.args.reference.now c.loop-row.row _ _
-    c.loop-row.writer c.encode-row.new.writer c.loop-row.output c.encode-row.new.band g (c.encode-row.ensures g.next)
+    c.loop-row.writer c.encode_row.new.writer c.loop-row.output c.encode_row.new.band g (c.encode_row.ensures g.next)
     (row_start c) (row_length c) (omega (arith, row_start c, rows_within c))
 
 pub returns : goal.returns

@@ -10,7 +10,7 @@ loop-column-init c p = row_none (format_of c.args.format) c.args.header.key c.ar
 pub loop-column-preserved : goal.loop-column-preserved
 loop-column-preserved c p =
     row_more (format_of c.args.format) c.args.header.key c.args.source.now c.args.reference.now c.args.row c.loop-column.column
-    c.args.writer.now c.loop-column.writer _ p c.loop-column.band _ (c.loop-column.invariant p) (c.encode-block-before.ensures (c.loop-column.invariant p).next)
+    c.args.writer.now c.loop-column.writer _ p c.loop-column.band _ (c.loop-column.invariant p) (c.encode_block-before.ensures (c.loop-column.invariant p).next)
 
 pub returns : goal.returns
 returns c p =

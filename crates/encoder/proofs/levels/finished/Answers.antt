@@ -8,4 +8,4 @@ returns-in-Some c key place reference p =
     (λ i l. subst (λ (z : ℤ). nat_abs z ≤ 65534) (sym (get_or-replicate 16 i (pos 0) (pos 0) l)) (omega arith))
 
 pub returns-in-None : goal.returns-in-None
-returns-in-None c = c.lowered.ensures c.with-nearest-nearest.ensures
+returns-in-None c = c.lowered.ensures c.with_nearest-nearest.ensures

@@ -4,7 +4,7 @@ pub loop-k-init : goal.loop-k-init
 loop-k-init c h = h
 
 pub loop-k-preserved : goal.loop-k-preserved
-loop-k-preserved c h = c.lowered-at-best.ensures (c.loop-k.invariant h)
+loop-k-preserved c h = c.lowered_at-best.ensures (c.loop-k.invariant h)
 
 pub returns : goal.returns
 returns c h = c.loop-k.invariant h

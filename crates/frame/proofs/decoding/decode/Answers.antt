@@ -19,34 +19,34 @@ loop-row-init c =
       (λ x y _ yl. absurd (let f : ⊥ = omega arith in f)),
     )
 
-pub slice-bounds-decode-row-end : goal.slice-bounds-decode-row-end
-slice-bounds-decode-row-end c =
+pub slice_bounds-decode_row-end : goal.slice_bounds-decode_row-end
+slice_bounds-decode_row-end c =
     omega (arith, mul-le (c.loop-row.row + 1) (16 * c.args.format.across) c.args.format.down (16 * c.args.format.across) (omega arith) (omega arith))
 
-pub returns-then-not-decode-row : goal.returns-then-not-decode-row
+pub returns-then-not-decode_row : goal.returns-then-not-decode_row
 unfolding valid
-returns-then-not-decode-row c =
-    let u = c.if-not-decode-row.ensures (start_reader (bits_of c.args.bytes.now)) c.loop-row.invariant.0 in
+returns-then-not-decode_row c =
+    let u = c.if-not-decode_row.ensures (start_reader (bits_of c.args.bytes.now)) c.loop-row.invariant.0 in
     every_fails (block_count (format_of c.args.format)) _ u.0 u.1 u.2
 
 -- the row that was lent on is as long as a row of blocks, and starts within the picture
-band_length : (c : goal.Else-not-decode-row) → length c.decode-row.new.band ≡ 16 * c.args.format.across
+band_length : (c : goal.Else-not-decode_row) → length c.decode_row.new.band ≡ 16 * c.args.format.across
 band_length c =
     let m = mul-le (c.loop-row.row + 1) (16 * c.args.format.across) c.args.format.down (16 * c.args.format.across) (omega arith) (omega arith) in
-    let h = c.decode-row.auto.band in
+    let h = c.decode_row.auto.band in
     let g = length-between c.loop-row.output (c.loop-row.row * (16 * c.args.format.across)) ((c.loop-row.row + 1) * (16 * c.args.format.across)) (omega arith) in
     omega arith
 
-band_start : (c : goal.Else-not-decode-row) → c.loop-row.row * (16 * c.args.format.across) ≤ length c.loop-row.output
+band_start : (c : goal.Else-not-decode_row) → c.loop-row.row * (16 * c.args.format.across) ≤ length c.loop-row.output
 band_start c =
     omega (arith, mul-le c.loop-row.row (16 * c.args.format.across) c.args.format.down (16 * c.args.format.across) (omega arith) (omega arith))
 
 pub loop-row-preserved : goal.loop-row-preserved
 loop-row-preserved c =
-    let u = c.if-not-decode-row.ensures (start_reader (bits_of c.args.bytes.now)) c.loop-row.invariant.0 in (
+    let u = c.if-not-decode_row.ensures (start_reader (bits_of c.args.bytes.now)) c.loop-row.invariant.0 in (
       u.0,
       (λ i z il. elim (cases_lt i (c.loop-row.row * c.args.format.across)) [ inl h ↦ c.loop-row.invariant.1 i z h | inr h ↦ u.1 i h il ]),
-      drawn_more (format_of c.args.format) _ c.loop-row.row _ _ c.loop-row.output c.decode-row.new.band c.loop-row.invariant.2 u.2 refl (band_length c) (band_start c),
+      drawn_more (format_of c.args.format) _ c.loop-row.row _ _ c.loop-row.output c.decode_row.new.band c.loop-row.invariant.2 u.2 refl (band_length c) (band_start c),
     )
 
 pub returns : goal.returns

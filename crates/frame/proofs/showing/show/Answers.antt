@@ -18,5 +18,5 @@ returns-in-Ok c =
     let P : Format → Type 0 = λ f.
     ShowSays (planes_rejection (16 * block_count f) c.args.reference.now c.args.output.now) f
     (record { header = record { key = c.args.key }; bits = bits_of c.args.bytes.now }) c.args.reference.now c.args.output.now
-    c.show-frame.result c.show-frame.new.output in
-    rw m.0 (subst P m.1 c.show-frame.ensures)
+    c.show_frame.result c.show_frame.new.output in
+    rw m.0 (subst P m.1 c.show_frame.ensures)

@@ -5,12 +5,12 @@ use Rattle.pictures.proofs.pgm_parsing.digits_end.Goals as goal
 
 pub loop-end-preserved : goal.loop-end-preserved
 loop-end-preserved c =
-    (omega arith, front_more is_ascii_digit _ _ _ c.loop-end.invariant.1 c.loop-end-test.true (sym c.if-is-ascii-digit.ensures.value))
+    (omega arith, front_more is_ascii_digit _ _ _ c.loop-end.invariant.1 c.loop-end-test.true (sym c.if-is_ascii_digit.ensures.value))
 
-pub returns-else-is-ascii-digit : goal.returns-else-is-ascii-digit
-returns-else-is-ascii-digit c =
+pub returns-else-is_ascii_digit : goal.returns-else-is_ascii_digit
+returns-else-is_ascii_digit c =
     record {
-      value = front_stop is_ascii_digit _ _ _ c.loop-end.invariant.1 c.loop-end-test.true (sym c.if-is-ascii-digit.ensures.value);
+      value = front_stop is_ascii_digit _ _ _ c.loop-end.invariant.1 c.loop-end-test.true (sym c.if-is_ascii_digit.ensures.value);
       within = c.loop-end.invariant.0;
     }
 

@@ -10,7 +10,7 @@ loop-index-preserved c =
     let before = vec_items c.args.frame.now in
     let index = c.loop-index.index in
     c.in-ok-push.ensures.items
-    ∙ ap (λ items. items ++ c.strip-pixel.result ∷ []) c.loop-index.invariant
-    ∙ ap (λ x. (before ++ map pixel (range_with_len 0 index)) ++ x ∷ []) c.strip-pixel.ensures
+    ∙ ap (λ items. items ++ c.strip_pixel.result ∷ []) c.loop-index.invariant
+    ∙ ap (λ x. (before ++ map pixel (range_with_len 0 index)) ++ x ∷ []) c.strip_pixel.ensures
     ∙ append_assoc before (map pixel (range_with_len 0 index)) _
     ∙ ap (λ items. before ++ items) (sym (map-range_with_len_more pixel 0 index index (omega arith)))

@@ -5,5 +5,5 @@ use Rattle.pictures.proofs.y4m.is_y4m_frame_line.Goals as goal
 
 pub returns : goal.returns
 returns c =
-    let end = c.word-end-end.ensures in
-    c.is-word.ensures ∙ ap (λ w. bytes_eq w (codes "FRAME")) (sym (first_is c.args.line.now _ end.value end.within))
+    let end = c.word_end-end.ensures in
+    c.is_word.ensures ∙ ap (λ w. bytes_eq w (codes "FRAME")) (sym (first_is c.args.line.now _ end.value end.within))

@@ -3,29 +3,29 @@ use Rattle.pictures.proofs.Cutting.{finished, left, left_fault, left_more, left_
 use Rattle.std.proofs.lemmas.Result.{err_from_is_err_and}
 use Rattle.pictures.proofs.y4m.parse_y4m_header.Goals as goal
 
-pub returns-then-not-is-word : goal.returns-then-not-is-word
-returns-then-not-is-word c =
-    let end = c.word-end-end.ensures in
-    ap Err c.at.ensures ∙ sym (magic_missing c.args.line.now _ end.value end.within (sym c.if-not-is-word.ensures))
+pub returns-then-not-is_word : goal.returns-then-not-is_word
+returns-then-not-is_word c =
+    let end = c.word_end-end.ensures in
+    ap Err c.at.ensures ∙ sym (magic_missing c.args.line.now _ end.value end.within (sym c.if-not-is_word.ensures))
 
 pub loop-end-init : goal.loop-end-init
 loop-end-init c =
     let line = c.args.line.now in
-    let end = c.word-end-end.ensures in
-    let found = magic_found line _ end.value end.within (sym c.if-not-is-word.ensures) in
-    (end.within, found ∙ ap (λ tags. finished line (left line tags c.word-end-end.result)) (sym c.none-tags.ensures))
+    let end = c.word_end-end.ensures in
+    let found = magic_found line _ end.value end.within (sym c.if-not-is_word.ensures) in
+    (end.within, found ∙ ap (λ tags. finished line (left line tags c.word_end-end.result)) (sym c.none-tags.ensures))
 
 pub returns-in-err-tags : goal.returns-in-err-tags
 returns-in-err-tags c =
     let line = c.args.line.now in
-    let end = c.word-end-end-in-loop-end.ensures in
+    let end = c.word_end-end-in-loop-end.ensures in
     let p = err_from_is_err_and c.from-residual.result c.from-residual.ensures.1 in
     rw (p.1, p.2) (sym (c.loop-end.invariant.1 ∙ ap (finished line) (left_fault line _ _ _ c.loop-end-test.true end.value end.within _ c.in-err-tags.ensures)))
 
 pub loop-end-preserved : goal.loop-end-preserved
 loop-end-preserved c =
     let line = c.args.line.now in
-    let end = c.word-end-end-in-loop-end.ensures in
+    let end = c.word_end-end-in-loop-end.ensures in
     (end.within, c.loop-end.invariant.1 ∙ ap (finished line) (left_more line _ _ _ c.loop-end-test.true end.value end.within _ c.in-ok-tags.ensures))
 
 pub returns : goal.returns

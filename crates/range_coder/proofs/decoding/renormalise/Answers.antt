@@ -4,8 +4,8 @@ use Rattle.bits.proofs.Positions.{bit_small}
 use Rattle.range_coder.proofs.Coding.{decoder_turn, renormalised_stays}
 use Rattle.range_coder.proofs.decoding.renormalise.Goals as goal
 
-pub overflow-add-offset : goal.overflow-add-offset
-overflow-add-offset c = omega (arith, bit_small (unread c.args.bytes.now c.loop-range.cursor 0))
+pub overflow_add-offset : goal.overflow_add-offset
+overflow_add-offset c = omega (arith, bit_small (unread c.args.bytes.now c.loop-range.cursor 0))
 
 pub loop-range-preserved : goal.loop-range-preserved
 loop-range-preserved c = (

@@ -2,8 +2,8 @@ use Rattle.std.proofs.Common.{sym, ◌∙◌, arith}
 use Rattle.range_coder.proofs.Coding.{encoder_turn, extended_stays, few_doublings}
 use Rattle.range_coder.proofs.writing.extend.Goals as goal
 
-pub overflow-add-doublings : goal.overflow-add-doublings
-overflow-add-doublings c = omega (arith, few_doublings _ _ (c.loop-range.invariant.1 0 0))
+pub overflow_add-doublings : goal.overflow_add-doublings
+overflow_add-doublings c = omega (arith, few_doublings _ _ (c.loop-range.invariant.1 0 0))
 
 pub loop-range-preserved : goal.loop-range-preserved
 loop-range-preserved c = (

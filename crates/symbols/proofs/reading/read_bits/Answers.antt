@@ -2,11 +2,11 @@ use Rattle.std.proofs.Common.{◌≡◌, ◌+◌, ◌*◌, ◌^◌, ◌<◌, sub
 use Rattle.symbols.proofs.ReadSteps.{bits_fit, bits_left_more, bits_left_none, bits_more_below}
 use Rattle.symbols.proofs.reading.read_bits.Goals as goal
 
-pub overflow-mul-value : goal.overflow-mul-value
-overflow-mul-value c = omega (arith, bits_fit c.loop.counter c.loop.value (omega arith) c.loop.invariant.1)
+pub overflow_mul-value : goal.overflow_mul-value
+overflow_mul-value c = omega (arith, bits_fit c.loop.counter c.loop.value (omega arith) c.loop.invariant.1)
 
-pub overflow-add-value : goal.overflow-add-value
-overflow-add-value c =
+pub overflow_add-value : goal.overflow_add-value
+overflow_add-value c =
     let b = bits_more_below c.loop.counter c.loop.value _ c.bypass.result c.loop.invariant.1 c.from.ensures in
     omega (arith, bits_fit (c.loop.counter + 1) (2 * c.loop.value + c.from.result) (omega arith) b)
 

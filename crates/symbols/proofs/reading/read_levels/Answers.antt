@@ -5,11 +5,11 @@ use Rattle.symbols.proofs.reading.read_levels.Goals as goal
 
 pub loop-k-preserved : goal.loop-k-preserved
 loop-k-preserved c =
-    let z = c.read-signed.result in
+    let z = c.read_signed.result in
     let fits : SFits w32 z = search rules in
     let inv = c.loop-k.invariant in
     rw (to_z-of_z w32 z fits) (
-      levels_left_more _ c.loop-k.k c.loop-k.levels z _ _ _ c.loop-k-test.true inv.1 inv.0 c.read-signed.ensures.read c.of-level.ensures,
+      levels_left_more _ c.loop-k.k c.loop-k.levels z _ _ _ c.loop-k-test.true inv.1 inv.0 c.read_signed.ensures.read c.of_level.ensures,
       length-set _ _ _ ∙ inv.1,
     )
 

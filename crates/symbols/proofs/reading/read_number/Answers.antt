@@ -5,6 +5,6 @@ use Rattle.symbols.proofs.reading.read_number.Goals as goal
 
 pub returns : goal.returns
 returns c =
-    let k = c.read-prefix-length.result in
-    let r = number_of c.args.context k c.read-bits.result _ _ _ _ c.read-prefix-length.ensures.read c.read-bits.ensures.read (one_shl k 32 (omega arith)) in
+    let k = c.read_prefix-length.result in
+    let r = number_of c.args.context k c.read_bits.result _ _ _ _ c.read_prefix-length.ensures.read c.read_bits.ensures.read (one_shl k 32 (omega arith)) in
     record { read = r; small = number_small c.args.context _ _ _ r }

@@ -21,15 +21,15 @@ named c c₁ z z₁ a b f e e₁ =
 
 pub returns-then-size-eq0 : goal.returns-then-size-eq0
 returns-then-size-eq0 c =
-    let n = c.read-number-size in
-    named _ _ _ _ _ _ (signed_zero _ n.result _ _ n.ensures.read c.if-size-eq0.true) c.first-context.ensures.is (plain n.result n.ensures.small)
+    let n = c.read_number-size in
+    named _ _ _ _ _ _ (signed_zero _ n.result _ _ n.ensures.read c.if-size-eq0.true) c.first_context.ensures.is (plain n.result n.ensures.small)
 
 pub returns-then-bypass : goal.returns-then-bypass
 returns-then-bypass c =
-    let n = c.read-number-size in
-    named _ _ _ _ _ _ (signed_of _ n.result true _ _ _ n.ensures.read c.if-size-eq0.false c.if-bypass.ensures) c.first-context.ensures.is (negated n.result n.ensures.small)
+    let n = c.read_number-size in
+    named _ _ _ _ _ _ (signed_of _ n.result true _ _ _ n.ensures.read c.if-size-eq0.false c.if-bypass.ensures) c.first_context.ensures.is (negated n.result n.ensures.small)
 
 pub returns-else-bypass : goal.returns-else-bypass
 returns-else-bypass c =
-    let n = c.read-number-size in
-    named _ _ _ _ _ _ (signed_of _ n.result false _ _ _ n.ensures.read c.if-size-eq0.false c.if-bypass.ensures) c.first-context.ensures.is (plain n.result n.ensures.small)
+    let n = c.read_number-size in
+    named _ _ _ _ _ _ (signed_of _ n.result false _ _ _ n.ensures.read c.if-size-eq0.false c.if-bypass.ensures) c.first_context.ensures.is (plain n.result n.ensures.small)

@@ -9,7 +9,7 @@ loop-k-preserved c =
     let z = get_or c.args.levels k (pos 0) in
     let fits : SFits w32 z = search rules in
     let sixteen : length c.args.levels ≡ 16 = search rules in
-    levels_left_more c.args.levels k _ _ _ _ _ c.loop-k-test.true sixteen c.loop-k.invariant c.write-signed.ensures c.of-level.ensures (to_z-of_z w32 z fits)
+    levels_left_more c.args.levels k _ _ _ _ _ c.loop-k-test.true sixteen c.loop-k.invariant c.write_signed.ensures c.of_level.ensures (to_z-of_z w32 z fits)
 
 pub returns : goal.returns
 returns c =

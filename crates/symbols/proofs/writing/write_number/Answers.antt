@@ -7,4 +7,4 @@ pub returns : goal.returns
 returns c =
     let k = c.exponent-length.result in
     let e : c.args.value + 1 - (1 * 2 ^ k) % 2 ^ 32 ≡ suc c.args.value - 2 ^ k = omega (arith, one_shl k 32 (omega arith)) in
-    number_of c.args.context c.args.value k _ _ _ _ c.exponent-length.ensures.is c.exponent-length.ensures.most e c.write-prefix.ensures c.write-bits.ensures
+    number_of c.args.context c.args.value k _ _ _ _ c.exponent-length.ensures.is c.exponent-length.ensures.most e c.write_prefix.ensures c.write_bits.ensures

@@ -17,12 +17,12 @@ returns-then-value-ne0 c =
     let z = c.args.value in
     let e = to_z-of_z w32 z c.ranges.value in
     signed_of _ z _ _ _ (λ zero. c.if-value-ne0.true (ap (of_z w32) zero))
-    (named _ _ _ _ _ _ _ c.first-context.ensures.is c.unsigned-abs.ensures.value e c.write-number.ensures)
-    (subst (λ x. HasWritten 1 (bypass (lt_z x (pos 0)) ∷ []) c.write-number.new.writer c.bypass.new.self) e c.bypass.ensures)
+    (named _ _ _ _ _ _ _ c.first_context.ensures.is c.unsigned_abs.ensures.value e c.write_number.ensures)
+    (subst (λ x. HasWritten 1 (bypass (lt_z x (pos 0)) ∷ []) c.write_number.new.writer c.bypass.new.self) e c.bypass.ensures)
 
 pub returns-else-value-ne0 : goal.returns-else-value-ne0
 returns-else-value-ne0 c =
     let z = c.args.value in
     let e = to_z-of_z w32 z c.ranges.value in
     signed_zero _ z _ _ (sym e ∙ ap (to_z w32) c.if-value-ne0.false)
-    (named _ _ _ _ _ _ _ c.first-context.ensures.is c.unsigned-abs.ensures.value e c.write-number.ensures)
+    (named _ _ _ _ _ _ _ c.first_context.ensures.is c.unsigned_abs.ensures.value e c.write_number.ensures)

@@ -2,11 +2,11 @@ use Rattle.std.proofs.Common.{sym, ◌∙◌, arith, true-eqb, false-eqb}
 use Rattle.text.proofs.Digits.{number_none, number_some, turn_some, turn_none, end_within, end_above}
 use Rattle.text.proofs.number.parse_number.Goals as goal
 
-pub returns-then-is-empty : goal.returns-then-is-empty
-returns-then-is-empty c = sym (number_none _ _ (true-eqb _ 0 c.if-is-empty.ensures))
+pub returns-then-is_empty : goal.returns-then-is_empty
+returns-then-is_empty c = sym (number_none _ _ (true-eqb _ 0 c.if-is_empty.ensures))
 
 pub loop-byte-init : goal.loop-byte-init
-loop-byte-init c = number_some _ _ (omega (arith, false-eqb _ 0 c.if-is-empty.ensures))
+loop-byte-init c = number_some _ _ (omega (arith, false-eqb _ 0 c.if-is_empty.ensures))
 
 pub returns-in-err-value : goal.returns-in-err-value
 returns-in-err-value c =

@@ -9,7 +9,7 @@ returns-in-Ok c =
     let is = pending_read items c.deref.result.now taken c.deref.ensures.value c.in-Ok.ensures.value in
     record {
       packet = sym (next_is items taken c.args.self.now.position c.in-Ok.found is);
-      state = rw c.saturating-add-self.ensures (sym (state_is items taken c.args.self.now.position c.in-Ok.found is));
+      state = rw c.saturating_add-self.ensures (sym (state_is items taken c.args.self.now.position c.in-Ok.found is));
       took = took items c.deref.result.now taken c.deref.ensures.value c.in-Ok.found c.in-Ok.ensures.within _ _;
       frame = tt;
     }

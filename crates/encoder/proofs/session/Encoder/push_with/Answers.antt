@@ -10,14 +10,14 @@ pub returns-in-err-length : goal.returns-in-err-length
 returns-in-err-length c =
     let p = err_from_is_err_and c.from-residual.result c.from-residual.ensures.1 in
     rw (p.1, p.2)
-    (push_rejected c.args.self.now c.args.source.now c.args.key c.next-is-key.result c.args.buffer.now c.code-frame.new.buffer
-    c.args.scratch.now c.code-frame.new.output c.pixel-count-pixels.result
-    c.next-is-key.ensures c.if-self.false c.pixel-count-pixels.ensures (omega arith) (omega arith)
+    (push_rejected c.args.self.now c.args.source.now c.args.key c.next_is_key.result c.args.buffer.now c.code_frame.new.buffer
+    c.args.scratch.now c.code_frame.new.output c.pixel_count-pixels.result
+    c.next_is_key.ensures c.if-self.false c.pixel_count-pixels.ensures (omega arith) (omega arith)
     c.in-err-length.field-0.0 c.in-err-length.ensures)
 
 pub returns : goal.returns
 returns c =
-    push_done c.args.self.now c.args.source.now c.args.key c.next-is-key.result c.args.buffer.now c.code-frame.new.buffer
-    c.args.scratch.now c.code-frame.new.output c.pixel-count-pixels.result
-    c.next-is-key.ensures c.if-self.false c.pixel-count-pixels.ensures (omega arith) (omega arith)
-    c.copy-from-slice.new.self c.copy-from-slice.ensures.after c.in-ok-length.length c.in-ok-length.ensures
+    push_done c.args.self.now c.args.source.now c.args.key c.next_is_key.result c.args.buffer.now c.code_frame.new.buffer
+    c.args.scratch.now c.code_frame.new.output c.pixel_count-pixels.result
+    c.next_is_key.ensures c.if-self.false c.pixel_count-pixels.ensures (omega arith) (omega arith)
+    c.copy_from_slice.new.self c.copy_from_slice.ensures.after c.in-ok-length.length c.in-ok-length.ensures

@@ -5,8 +5,8 @@ use Rattle.range_coder.specs.Decisions.{start_writer}
 use Rattle.range_coder.proofs.Bottom.{zeros_clean, zeros_prefix}
 use Rattle.range_coder.proofs.writer.Writer.new.Goals as goal
 
-pub invariant-of-result : goal.invariant-of-result
-invariant-of-result c = (omega arith, (omega arith, (omega arith, (omega arith, (length-replicate {A = ℕ} 1024 0, (omega (arith, zeros_prefix 1024 8), ((λ n _. zeros_clean 1024 n), tt)))))))
+pub invariant_of-result : goal.invariant_of-result
+invariant_of-result c = (omega arith, (omega arith, (omega arith, (omega arith, (length-replicate {A = ℕ} 1024 0, (omega (arith, zeros_prefix 1024 8), ((λ n _. zeros_clean 1024 n), tt)))))))
 
 pub returns : goal.returns
 unfolding start_writer start_encoder

@@ -7,10 +7,10 @@ pub returns-in-err-self : goal.returns-in-err-self
 returns-in-err-self c =
     let p = err_from_is_err_and c.from-residual.result c.from-residual.ensures.1 in
     rw (p.1, p.2)
-    (screen_rejected c.args.self.now _ c.pixel-count-pixels.result c.receive.new.picture (omega arith) (omega arith)
+    (screen_rejected c.args.self.now _ c.pixel_count-pixels.result c.receive.new.picture (omega arith) (omega arith)
     c.in-err-self.field-0.0 c.in-err-self.ensures)
 
 pub returns : goal.returns
 returns c =
-    screen_received c.args.self.now _ c.pixel-count-pixels.result c.receive.new.picture (omega arith) (omega arith)
+    screen_received c.args.self.now _ c.pixel_count-pixels.result c.receive.new.picture (omega arith) (omega arith)
     c.in-ok-self.field-0 c.in-ok-self.ensures

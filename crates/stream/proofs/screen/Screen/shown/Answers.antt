@@ -5,5 +5,5 @@ use Rattle.stream.proofs.screen.Screen.shown.Goals as goal
 
 pub returns : goal.returns
 returns c =
-    let e : c.checked-sub.result ≡ number_shown c.args.self.now.receiver.next = search rules in
-    record { number = e; video = shows_number c.args.self.now c.checked-sub.result e }
+    let e : c.checked_sub.result ≡ number_shown c.args.self.now.receiver.next = search rules in
+    record { number = e; video = shows_number c.args.self.now c.checked_sub.result e }

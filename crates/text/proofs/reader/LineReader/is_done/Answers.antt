@@ -2,4 +2,4 @@ use Rattle.text.proofs.Steps.{done}
 use Rattle.text.proofs.reader.LineReader.is_done.Goals as goal
 
 pub returns : goal.returns
-returns c = done c.args.self _ _ c.next-word.ensures.bytes c.is-empty.ensures
+returns c = done c.args.self _ _ c.next_word.ensures.bytes c.is_empty.ensures
