@@ -4,29 +4,29 @@ use Rattle.block.specs.Picture.{picture_in}
 use Rattle.block.proofs.Motion.{flat_pixels, moved_pixel, refused_across, refused_down, stays_inside}
 use Rattle.block.proofs.prediction.predict.Goals as goal
 
-pub returns-in-err-column : goal.returns-in-err-column
-returns-in-err-column c =
+pub returns-in_err-column : goal.returns-in_err-column
+returns-in_err-column c =
     let fits : SFits w32 c.in-Motion.field-0.dx = search rules in
     rw c.from-residual.ensures
-    (refused_across _ c.args.left c.args.top _ _ c.in-Motion.is (simp to_z-of_z at c.in-err-column.ensures))
+    (refused_across _ c.args.left c.args.top _ _ c.in-Motion.is (simp to_z-of_z at c.in_err-column.ensures))
 
-pub returns-in-err-row : goal.returns-in-err-row
-returns-in-err-row c =
+pub returns-in_err-row : goal.returns-in_err-row
+returns-in_err-row c =
     let fits : SFits w32 c.in-Motion.field-0.dy = search rules in
-    rw c.from-residual-in-err-row.ensures
-    (refused_down _ c.args.left c.args.top _ _ c.in-Motion.is (simp to_z-of_z at c.in-err-row.ensures))
+    rw c.from-residual-in_err-row.ensures
+    (refused_down _ c.args.left c.args.top _ _ c.in-Motion.is (simp to_z-of_z at c.in_err-row.ensures))
 
 pub returns-in-Flat : goal.returns-in-Flat
 returns-in-Flat c =
     flat_pixels c.args.size c.args.left c.args.top _ c.in-Flat.value (picture_in c.args.size.width c.args.reference.now)
     c.in-Flat.is
 
-pub returns-in-ok-row : goal.returns-in-ok-row
-returns-in-ok-row c =
+pub returns-in_ok-row : goal.returns-in_ok-row
+returns-in_ok-row c =
     let x_fits : SFits w32 c.in-Motion.field-0.dx = search rules in
     let y_fits : SFits w32 c.in-Motion.field-0.dy = search rules in
-    let across = simp to_z-of_z at c.in-ok-column.ensures in
-    let down = simp to_z-of_z at c.in-ok-row.ensures in (
+    let across = simp to_z-of_z at c.in_ok-column.ensures in
+    let down = simp to_z-of_z at c.in_ok-row.ensures in (
       stays_inside c.args.size c.args.left c.args.top _ _ c.in-Motion.is across.0 down.0,
       λ x y h k. c.pixels_at.ensures x y h k ∙
           moved_pixel c.args.size c.args.left c.args.top _ _ c.in-Motion.is

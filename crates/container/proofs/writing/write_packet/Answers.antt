@@ -6,7 +6,7 @@ use Rattle.container.proofs.writing.write_packet.Goals as goal
 pub returns-then-is_err : goal.returns-then-is_err
 returns-then-is_err c =
     c.truncate.ensures.items
-    ∙ cut_back (vec_items c.args.out.now) _ c.len-position.result c.in-ok-extend_from_slice.ensures.items
+    ∙ cut_back (vec_items c.args.out.now) _ c.len-position.result c.in_ok-extend_from_slice.ensures.items
     (rw c.if-is_err.ensures.negation at c.extend_from_slice-2.ensures.items) (omega arith)
 
 pub returns : goal.returns
@@ -15,5 +15,5 @@ returns c =
     let two = rw c.if-is_err.ensures.negation at c.extend_from_slice-2.ensures.items in (
       omega arith,
       at_file_end p c.head_bytes-head.result.bytes c.head_bytes-head.result.size c.head_bytes-head.ensures.bytes
-          (vec_items c.args.out.now) {one = vec_items c.extend_from_slice.new.self} c.in-ok-extend_from_slice.ensures.items two,
+          (vec_items c.args.out.now) {one = vec_items c.extend_from_slice.new.self} c.in_ok-extend_from_slice.ensures.items two,
     )

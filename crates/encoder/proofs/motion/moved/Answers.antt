@@ -7,7 +7,7 @@ use Rattle.encoder.proofs.motion.moved.Goals as goal
 
 pub returns : goal.returns
 returns c =
-    let p = c.in-ok-pixels.ensures in
+    let p = c.in_ok-pixels.ensures in
     let size = c.args.place.size in
     let within : predictable size c.args.place.left c.args.place.top (Motion c.args.vector) ≡ true
     = (λ i. predictable size (sym c.from-left.ensures i) (sym c.from-top.ensures i) (Motion c.args.vector)) ∙ p.0 in

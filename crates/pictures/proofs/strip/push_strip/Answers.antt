@@ -9,7 +9,7 @@ loop-index-preserved c =
     let pixel = strip_pixel c.args.mark c.args.width in
     let before = vec_items c.args.frame.now in
     let index = c.loop-index.index in
-    c.in-ok-push.ensures.items
+    c.in_ok-push.ensures.items
     ∙ ap (λ items. items ++ c.strip_pixel.result ∷ []) c.loop-index.invariant
     ∙ ap (λ x. (before ++ map pixel (range_with_len 0 index)) ++ x ∷ []) c.strip_pixel.ensures
     ∙ append_assoc before (map pixel (range_with_len 0 index)) _

@@ -15,18 +15,18 @@ loop-end-init c =
     let found = magic_found line _ end.value end.within (sym c.if-not-is_word.ensures) in
     (end.within, found ∙ ap (λ tags. finished line (left line tags c.word_end-end.result)) (sym c.none-tags.ensures))
 
-pub returns-in-err-tags : goal.returns-in-err-tags
-returns-in-err-tags c =
+pub returns-in_err-tags : goal.returns-in_err-tags
+returns-in_err-tags c =
     let line = c.args.line.now in
     let end = c.word_end-end-in-loop-end.ensures in
     let p = err_from_is_err_and c.from-residual.result c.from-residual.ensures.1 in
-    rw (p.1, p.2) (sym (c.loop-end.invariant.1 ∙ ap (finished line) (left_fault line _ _ _ c.loop-end-test.true end.value end.within _ c.in-err-tags.ensures)))
+    rw (p.1, p.2) (sym (c.loop-end.invariant.1 ∙ ap (finished line) (left_fault line _ _ _ c.loop-end-test.true end.value end.within _ c.in_err-tags.ensures)))
 
 pub loop-end-preserved : goal.loop-end-preserved
 loop-end-preserved c =
     let line = c.args.line.now in
     let end = c.word_end-end-in-loop-end.ensures in
-    (end.within, c.loop-end.invariant.1 ∙ ap (finished line) (left_more line _ _ _ c.loop-end-test.true end.value end.within _ c.in-ok-tags.ensures))
+    (end.within, c.loop-end.invariant.1 ∙ ap (finished line) (left_more line _ _ _ c.loop-end-test.true end.value end.within _ c.in_ok-tags.ensures))
 
 pub returns : goal.returns
 returns c =

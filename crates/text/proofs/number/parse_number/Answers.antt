@@ -8,12 +8,12 @@ returns-then-is_empty c = sym (number_none _ _ (true-eqb _ 0 c.if-is_empty.ensur
 pub loop-byte-init : goal.loop-byte-init
 loop-byte-init c = number_some _ _ (omega (arith, false-eqb _ 0 c.if-is_empty.ensures))
 
-pub returns-in-err-value : goal.returns-in-err-value
-returns-in-err-value c =
-    c.from-residual.ensures ∙ sym (c.loop-byte.invariant ∙ turn_none _ _ _ _ (omega arith) c.loop-byte-test.true c.in-err-value.ensures)
+pub returns-in_err-value : goal.returns-in_err-value
+returns-in_err-value c =
+    c.from-residual.ensures ∙ sym (c.loop-byte.invariant ∙ turn_none _ _ _ _ (omega arith) c.loop-byte-test.true c.in_err-value.ensures)
 
 pub loop-byte-preserved : goal.loop-byte-preserved
-loop-byte-preserved c = c.loop-byte.invariant ∙ turn_some _ _ _ _ (omega arith) c.loop-byte-test.true _ c.in-ok-value.ensures
+loop-byte-preserved c = c.loop-byte.invariant ∙ turn_some _ _ _ _ (omega arith) c.loop-byte-test.true _ c.in_ok-value.ensures
 
 pub returns-then-value-limit : goal.returns-then-value-limit
 returns-then-value-limit c = sym (c.loop-byte.invariant ∙ end_within _ _ _ _ c.loop-byte-test.false c.if-value-limit.true)

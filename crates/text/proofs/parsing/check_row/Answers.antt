@@ -5,13 +5,13 @@ use Rattle.text.specs.Line.{left}
 use Rattle.text.proofs.Gathering.{pixels_rejected, outcome_turn, outcome_done}
 use Rattle.text.proofs.parsing.check_row.Goals as goal
 
-pub returns-in-err-byte : goal.returns-in-err-byte
-returns-in-err-byte c =
+pub returns-in_err-byte : goal.returns-in_err-byte
+returns-in_err-byte c =
     let p = err_from_is_err_and c.from-residual.result c.from-residual.ensures.1 in
-    rw (p.1, p.2) (sym (c.loop.invariant ∙ ap outcome (pixels_rejected _ _ c.loop-test.true (left c.loop.words) _ c.in-err-byte.ensures)))
+    rw (p.1, p.2) (sym (c.loop.invariant ∙ ap outcome (pixels_rejected _ _ c.loop-test.true (left c.loop.words) _ c.in_err-byte.ensures)))
 
 pub loop-preserved : goal.loop-preserved
-loop-preserved c = c.loop.invariant ∙ outcome_turn _ _ c.loop-test.true (left c.loop.words) (left c.byte.new.self) _ c.in-ok-byte.ensures
+loop-preserved c = c.loop.invariant ∙ outcome_turn _ _ c.loop-test.true (left c.loop.words) (left c.byte.new.self) _ c.in_ok-byte.ensures
 
 pub returns : goal.returns
 returns c = c.end.ensures ∙ sym (c.loop.invariant ∙ outcome_done _ _ (left c.loop.words) c.loop-test.false)

@@ -4,14 +4,14 @@ use Rattle.std.proofs.lemmas.Result.{err_from_is_err_and}
 use Rattle.console.proofs.source.Source.fill.Goals as goal
 use Rattle.console.proofs.source.Source.fill.Goals.{else-loop-test, then-loop-test+then-len-count, then-len-count-via-then-len-count, then-len-count-via-else-len-count+in-ok-read-more+then-not-branch}
 
-pub returns-in-err-read_more : goal.returns-in-err-read_more
-returns-in-err-read_more c =
+pub returns-in_err-read_more : goal.returns-in_err-read_more
+returns-in_err-read_more c =
     let p = err_from_is_err_and c.from-residual.result c.from-residual.ensures.1 in
     record { grown = read_on _ _ _ c.loop.invariant.0 c.read_more.ensures.grown; filled = rw p.1 tt }
 
 pub loop-preserved : goal.loop-preserved
 loop-preserved c =
-    (read_on _ _ _ c.loop.invariant.0 c.read_more.ensures.grown, omega (arith, c.loop.invariant.1, ltb-true _ _ (sym c.in-ok-read_more.ensures.more ∙ c.if-not-branch.false)))
+    (read_on _ _ _ c.loop.invariant.0 c.read_more.ensures.grown, omega (arith, c.loop.invariant.1, ltb-true _ _ (sym c.in_ok-read_more.ensures.more ∙ c.if-not-branch.false)))
 
 pub returns : goal.returns
 returns c =
@@ -25,7 +25,7 @@ returns c =
             | then-len-count-via-else-len-count+in-ok-read-more+then-not-branch w' ↦
                 rw (w.self-is, w'.self-is) (record {
                   grown = read_on _ _ _ c.loop.invariant.0 w'.read_more.ensures.grown;
-                  filled = at_end c.args.count w'.read_more.new.self (sym w'.in-ok-read_more.ensures.ended ∙ w'.if-not-branch.true);
+                  filled = at_end c.args.count w'.read_more.new.self (sym w'.in_ok-read_more.ensures.ended ∙ w'.if-not-branch.true);
                 })
           ]
     ]

@@ -5,14 +5,14 @@ use Rattle.std.proofs.lemmas.Result.{err_from_is_err_and}
 use Rattle.console.proofs.source.Source.read_to_line_end.Goals as goal
 use Rattle.console.proofs.source.Source.read_to_line_end.Goals.{else-loop-test, then-loop-test+then-found, then-found-via-then-found, then-found-via-else-found+then-end-limit, then-found-via-else-found+else-end-limit+in-ok-read-more+then-not-branch}
 
-pub returns-in-err-read_more : goal.returns-in-err-read_more
-returns-in-err-read_more c =
+pub returns-in_err-read_more : goal.returns-in_err-read_more
+returns-in_err-read_more c =
     let p = err_from_is_err_and c.from-residual.result c.from-residual.ensures.1 in
     record { grown = read_on _ _ _ c.loop.invariant.0 c.read_more.ensures.grown; line = rw p.1 tt }
 
 pub loop-preserved : goal.loop-preserved
 loop-preserved c =
-    let longer = ltb-true _ _ (sym c.in-ok-read_more.ensures.more ∙ c.if-not-branch.false) in
+    let longer = ltb-true _ _ (sym c.in_ok-read_more.ensures.more ∙ c.if-not-branch.false) in
     let same = ap length c.front.ensures in
     let none = further _ _ _ _ c.front.ensures c.loop.invariant.1.1.1 c.line_end-end.ensures.before in (
       read_on _ _ _ c.loop.invariant.0 c.read_more.ensures.grown,
@@ -42,12 +42,12 @@ returns c =
                   line = ended_line _ _ _ _ (sym same) w.line_end-end.ensures.within none w.line_end-end.ensures.found (by_limit c.loop.self c.args.limit w.line_end-end.result (omega (arith, w'.if-end-limit.true)));
                 })
             | then-found-via-else-found+else-end-limit+in-ok-read-more+then-not-branch w' ↦
-                let unread = unmoved _ _ w'.read_more.ensures.grown (sym w'.in-ok-read_more.ensures.more ∙ w'.if-not-branch.true) in
+                let unread = unmoved _ _ w'.read_more.ensures.grown (sym w'.in_ok-read_more.ensures.more ∙ w'.if-not-branch.true) in
                 rw (w.self-is, w.end-is, w'.self-is) (record {
                   grown = read_on _ _ _ c.loop.invariant.0 w'.read_more.ensures.grown;
                   line = ended_line _ _ _ _ (unread ∙ sym same) w.line_end-end.ensures.within
                       (kept c.loop.self w'.read_more.new.self w.line_end-end.result w'.read_more.ensures.grown (omega (arith, w.line_end-end.ensures.within, ap length same)) none) w.line_end-end.ensures.found
-                      (by_end w'.read_more.new.self c.args.limit w.line_end-end.result (sym w'.in-ok-read_more.ensures.ended ∙ w'.if-not-branch.true));
+                      (by_end w'.read_more.new.self c.args.limit w.line_end-end.result (sym w'.in_ok-read_more.ensures.ended ∙ w'.if-not-branch.true));
                 })
           ]
     ]

@@ -6,18 +6,18 @@ use Rattle.encoder.proofs.session.Encoder.push_with.Goals as goal
 pub returns-then-self : goal.returns-then-self
 returns-then-self c = number_rejected c.args.self.now c.args.source.now c.args.key c.args.buffer.now c.if-self.true
 
-pub returns-in-err-length : goal.returns-in-err-length
-returns-in-err-length c =
+pub returns-in_err-length : goal.returns-in_err-length
+returns-in_err-length c =
     let p = err_from_is_err_and c.from-residual.result c.from-residual.ensures.1 in
     rw (p.1, p.2)
     (push_rejected c.args.self.now c.args.source.now c.args.key c.next_is_key.result c.args.buffer.now c.code_frame.new.buffer
     c.args.scratch.now c.code_frame.new.output c.pixel_count-pixels.result
     c.next_is_key.ensures c.if-self.false c.pixel_count-pixels.ensures (omega arith) (omega arith)
-    c.in-err-length.field-0.0 c.in-err-length.ensures)
+    c.in_err-length.field-0.0 c.in_err-length.ensures)
 
 pub returns : goal.returns
 returns c =
     push_done c.args.self.now c.args.source.now c.args.key c.next_is_key.result c.args.buffer.now c.code_frame.new.buffer
     c.args.scratch.now c.code_frame.new.output c.pixel_count-pixels.result
     c.next_is_key.ensures c.if-self.false c.pixel_count-pixels.ensures (omega arith) (omega arith)
-    c.copy_from_slice.new.self c.copy_from_slice.ensures.after c.in-ok-length.length c.in-ok-length.ensures
+    c.copy_from_slice.new.self c.copy_from_slice.ensures.after c.in_ok-length.length c.in_ok-length.ensures
