@@ -7,13 +7,13 @@ use Rattle.block.proofs.prediction.predict.Goals as goal
 pub returns-in_err-column : goal.returns-in_err-column
 returns-in_err-column c =
     let fits : SFits w32 c.in-Motion.field-0.dx = search rules in
-    rw c.from-residual.ensures
+    rw c.from_residual.ensures
     (refused_across _ c.args.left c.args.top _ _ c.in-Motion.is (simp to_z-of_z at c.in_err-column.ensures))
 
 pub returns-in_err-row : goal.returns-in_err-row
 returns-in_err-row c =
     let fits : SFits w32 c.in-Motion.field-0.dy = search rules in
-    rw c.from-residual-in_err-row.ensures
+    rw c.from_residual-in_err-row.ensures
     (refused_down _ c.args.left c.args.top _ _ c.in-Motion.is (simp to_z-of_z at c.in_err-row.ensures))
 
 pub returns-in-Flat : goal.returns-in-Flat

@@ -6,7 +6,7 @@ use Rattle.container.proofs.reading.locate.Goals as goal
 
 pub returns-in_err-tag : goal.returns-in_err-tag
 returns-in_err-tag c =
-    let p = err_from_is_err_and c.from-residual.result c.from-residual.ensures.1 in
+    let p = err_from_is_err_and c.from_residual.result c.from_residual.ensures.1 in
     rw (p.1, p.2) (record { value = sym (tag_fault c.args.bytes.now (sym c.in_err-tag.ensures.value)); within = tt })
 
 pub returns-then-number-gt-MAX-NUMBER : goal.returns-then-number-gt-MAX-NUMBER
@@ -17,7 +17,7 @@ returns-then-number-gt-MAX-NUMBER c = record {
 
 pub returns-in_err-length : goal.returns-in_err-length
 returns-in_err-length c =
-    let p = err_from_is_err_and c.from-residual-in_err-length.result c.from-residual-in_err-length.ensures.1 in
+    let p = err_from_is_err_and c.from_residual-in_err-length.result c.from_residual-in_err-length.ensures.1 in
     rw (p.1, p.2) (record {
       value = sym (length_fault c.args.bytes.now _ (sym c.in_ok-tag.ensures.value) (omega arith) (rw take_rest at (sym c.in_err-length.ensures.value)));
       within = tt;

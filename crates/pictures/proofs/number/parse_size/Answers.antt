@@ -7,7 +7,7 @@ loop-byte-init c = (omega arith, finish_all _)
 
 pub returns-in_err-value : goal.returns-in_err-value
 returns-in_err-value c =
-    c.from-residual.ensures ∙ sym (c.loop-byte.invariant.1 ∙ turn_none _ _ _ c.loop-byte-test.true c.in_err-value.ensures)
+    c.from_residual.ensures ∙ sym (c.loop-byte.invariant.1 ∙ turn_none _ _ _ c.loop-byte-test.true c.in_err-value.ensures)
 
 pub loop-byte-preserved : goal.loop-byte-preserved
 loop-byte-preserved c =

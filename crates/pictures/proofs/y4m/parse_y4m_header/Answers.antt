@@ -19,7 +19,7 @@ pub returns-in_err-tags : goal.returns-in_err-tags
 returns-in_err-tags c =
     let line = c.args.line.now in
     let end = c.word_end-end-in-loop-end.ensures in
-    let p = err_from_is_err_and c.from-residual.result c.from-residual.ensures.1 in
+    let p = err_from_is_err_and c.from_residual.result c.from_residual.ensures.1 in
     rw (p.1, p.2) (sym (c.loop-end.invariant.1 ∙ ap (finished line) (left_fault line _ _ _ c.loop-end-test.true end.value end.within _ c.in_err-tags.ensures)))
 
 pub loop-end-preserved : goal.loop-end-preserved

@@ -10,7 +10,7 @@ loop-byte-init c = number_some _ _ (omega (arith, false-eqb _ 0 c.if-is_empty.en
 
 pub returns-in_err-value : goal.returns-in_err-value
 returns-in_err-value c =
-    c.from-residual.ensures ∙ sym (c.loop-byte.invariant ∙ turn_none _ _ _ _ (omega arith) c.loop-byte-test.true c.in_err-value.ensures)
+    c.from_residual.ensures ∙ sym (c.loop-byte.invariant ∙ turn_none _ _ _ _ (omega arith) c.loop-byte-test.true c.in_err-value.ensures)
 
 pub loop-byte-preserved : goal.loop-byte-preserved
 loop-byte-preserved c = c.loop-byte.invariant ∙ turn_some _ _ _ _ (omega arith) c.loop-byte-test.true _ c.in_ok-value.ensures

@@ -7,7 +7,7 @@ use Rattle.text.proofs.parsing.check_row.Goals as goal
 
 pub returns-in_err-byte : goal.returns-in_err-byte
 returns-in_err-byte c =
-    let p = err_from_is_err_and c.from-residual.result c.from-residual.ensures.1 in
+    let p = err_from_is_err_and c.from_residual.result c.from_residual.ensures.1 in
     rw (p.1, p.2) (sym (c.loop.invariant ∙ ap outcome (pixels_rejected _ _ c.loop-test.true (left c.loop.words) _ c.in_err-byte.ensures)))
 
 pub loop-preserved : goal.loop-preserved

@@ -7,7 +7,7 @@ use Rattle.text.proofs.parsing.read_bytes.Goals as goal
 
 pub returns-in_err-byte : goal.returns-in_err-byte
 returns-in_err-byte c =
-    let p = err_from_is_err_and c.from-residual.result c.from-residual.ensures.1 in
+    let p = err_from_is_err_and c.from_residual.result c.from_residual.ensures.1 in
     rw (p.1, p.2) (c.loop-words.invariant ∙ ap (after (vec_items c.loop-words.bytes)) (bytes_rejected (left c.loop-words.words) _ (sym c.loop-words-test.ensures) c.in_err-byte.ensures))
 
 pub loop-words-preserved : goal.loop-words-preserved

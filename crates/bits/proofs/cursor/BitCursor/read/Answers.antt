@@ -16,7 +16,7 @@ returns c = record {
   value = rw add-zero (sym (bit_in_byte c.args.bytes.now c.args.self.byte c.args.self.bit (omega arith)));
   next = skip_to (bits_of c.args.bytes.now) _ (position c.args.self)
       (elim c.if-self-eq7.branch [
-        | then-self-eq7 w ↦ omega (arith, ap (λ n. n.0) w.next_is, ap (λ n. n.1.0) w.next_is)
-        | else-self-eq7 w ↦ omega (arith, ap (λ n. n.0) w.next_is, ap (λ n. n.1.0) w.next_is)
+        | then-self-eq7 w ↦ omega (arith, ap (λ n. n.0) w.next-is, ap (λ n. n.1.0) w.next-is)
+        | else-self-eq7 w ↦ omega (arith, ap (λ n. n.0) w.next-is, ap (λ n. n.1.0) w.next-is)
       ]);
 }

@@ -6,7 +6,7 @@ use Rattle.console.proofs.source.Source.fill.Goals.{else-loop-test, then-loop-te
 
 pub returns-in_err-read_more : goal.returns-in_err-read_more
 returns-in_err-read_more c =
-    let p = err_from_is_err_and c.from-residual.result c.from-residual.ensures.1 in
+    let p = err_from_is_err_and c.from_residual.result c.from_residual.ensures.1 in
     record { grown = read_on _ _ _ c.loop.invariant.0 c.read_more.ensures.grown; filled = rw p.1 tt }
 
 pub loop-preserved : goal.loop-preserved

@@ -7,7 +7,7 @@ use Rattle.console.proofs.source.Source.read_to_line_end.Goals.{else-loop-test, 
 
 pub returns-in_err-read_more : goal.returns-in_err-read_more
 returns-in_err-read_more c =
-    let p = err_from_is_err_and c.from-residual.result c.from-residual.ensures.1 in
+    let p = err_from_is_err_and c.from_residual.result c.from_residual.ensures.1 in
     record { grown = read_on _ _ _ c.loop.invariant.0 c.read_more.ensures.grown; line = rw p.1 tt }
 
 pub loop-preserved : goal.loop-preserved

@@ -8,7 +8,7 @@ returns-then-self c = number_rejected c.args.self.now c.args.source.now c.args.k
 
 pub returns-in_err-length : goal.returns-in_err-length
 returns-in_err-length c =
-    let p = err_from_is_err_and c.from-residual.result c.from-residual.ensures.1 in
+    let p = err_from_is_err_and c.from_residual.result c.from_residual.ensures.1 in
     rw (p.1, p.2)
     (push_rejected c.args.self.now c.args.source.now c.args.key c.next_is_key.result c.args.buffer.now c.code_frame.new.buffer
     c.args.scratch.now c.code_frame.new.output c.pixel_count-pixels.result

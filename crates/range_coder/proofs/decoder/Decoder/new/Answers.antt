@@ -14,4 +14,4 @@ returns c =
       | then-bytes-gt0 w ↦ w.offset-is ∙ w.from-offset.ensures
       | else-bytes-gt0 w ↦ w.offset-is ∙ sym (get_or_past bytes 0 0 (omega arith))
     ] in
-    λ i. record { range = 256; offset = (o ∙ sym (first_byte bytes (λ i. omega (arith, c.ok.bytes i)))) i; rest = skip 8 (bits_of bytes) }
+    λ i. record { range = 256; offset = (o ∙ sym (first_byte bytes (λ i. omega (arith, c.type_inv.bytes i)))) i; rest = skip 8 (bits_of bytes) }

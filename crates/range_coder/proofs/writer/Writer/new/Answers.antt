@@ -6,7 +6,15 @@ use Rattle.range_coder.proofs.Bottom.{zeros_clean, zeros_prefix}
 use Rattle.range_coder.proofs.writer.Writer.new.Goals as goal
 
 pub invariant_of-result : goal.invariant_of-result
-invariant_of-result c = (omega arith, (omega arith, (omega arith, (omega arith, (length-replicate {A = ℕ} 1024 0, (omega (arith, zeros_prefix 1024 8), ((λ n _. zeros_clean 1024 n), tt)))))))
+invariant_of-result c = record {
+  low = omega arith;
+  high = omega arith;
+  first = omega arith;
+  room = omega arith;
+  sized = length-replicate {A = ℕ} 1024 0;
+  top = omega (arith, zeros_prefix 1024 8);
+  clean = λ n _. zeros_clean 1024 n;
+}
 
 pub returns : goal.returns
 unfolding start_writer start_encoder

@@ -18,7 +18,15 @@ invariant_of-self c =
     c.extend-range.result.1 (omega arith)
     (same_bottom c.args.p c.args.decision c.args.self.now.bits c.args.self.now.range c.narrow-part.result (stored c.args.self.now.store) (stored c.make_room.new.self)
     (stored c.narrow-part.new.self) c.make_room.ensures.same c.narrow-part.ensures.same) c.narrow-part.ensures.clean c.extend-range.ensures in
-    (h.sound.low, (h.sound.high, (h.first, (omega (arith, h.spent), (c.narrow-part.ensures.sized c.make_room.ensures.sized, (h.sound.top, (h.clean, tt)))))))
+    record {
+      low = h.sound.low;
+      high = h.sound.high;
+      first = h.first;
+      room = omega (arith, h.spent);
+      sized = c.narrow-part.ensures.sized c.make_room.ensures.sized;
+      top = h.sound.top;
+      clean = h.clean;
+    }
 
 pub returns : goal.returns
 returns c =

@@ -5,7 +5,7 @@ use Rattle.stream.proofs.screen.Screen.receive.Goals as goal
 
 pub returns-in_err-self : goal.returns-in_err-self
 returns-in_err-self c =
-    let p = err_from_is_err_and c.from-residual.result c.from-residual.ensures.1 in
+    let p = err_from_is_err_and c.from_residual.result c.from_residual.ensures.1 in
     rw (p.1, p.2)
     (screen_rejected c.args.self.now _ c.pixel_count-pixels.result c.receive.new.picture (omega arith) (omega arith)
     c.in_err-self.field-0.0 c.in_err-self.ensures)
