@@ -15,7 +15,7 @@ slice_bounds-encode_row-end c =
     omega (arith, mul-le (c.loop-row.row + 1) (16 * c.across-band.result) c.args.format.down (16 * c.across-band.result) (omega arith) (omega arith), mul_comm c.args.format.down c.across-band.result, ap (λ n. n * c.args.format.down) a)
 
 -- the row that was lent on starts within the picture, and is as long as a row of blocks
-module _ (c : goal.After-slice_known-in-loop-row·1) where
+module _ (c : goal.After-slice_known-in-loop-row-1) where
   row_start : c.loop-row.row * (16 * c.across-band.result) ≡ c.loop-row.row * (16 * c.args.format.across)
   row_start = ap (λ n. c.loop-row.row * (16 * n)) c.across-band.ensures
 
