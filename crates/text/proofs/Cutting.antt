@@ -4,7 +4,7 @@ use Rattle.std.proofs.lemmas.List.Edits.{between_more, between_none, length-betw
 use Rattle.std.proofs.lemmas.List.{drop_all, drop_more, nil_from_length}
 use Rattle.std.proofs.lemmas.Bool.{cases_lt, eq-eqb, ne_eqb}
 use Rattle.std.specs.List.{between}
-use Rattle.text.specs.Line.{Words, end, word, closed, words_from, bytes_of, position, rest}
+use Rattle.text.specs.Line.{Words, end, closed, words_from, bytes_of, position, rest}
 
 pub at_space : (bytes : List ℕ) (n c : ℕ) (cs : List ℕ) → c ≡ 32 → words_from bytes n (c ∷ cs) ≡ closed bytes n (words_from [] (n + 1) cs)
 unfolding words_from

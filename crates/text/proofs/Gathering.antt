@@ -4,7 +4,7 @@ use Rattle.frame.specs.declared.rejection.Rejection.{Rejection}
 use Rattle.std.proofs.lemmas.List.{take_all, take_more_set}
 use Rattle.std.proofs.lemmas.Bool.{false≢true, true≢false}
 use Rattle.text.proofs.Steps.{number_rest}
-use Rattle.text.specs.Line.{Words, end, word, rest, at_end, no_more, next_number, answered}
+use Rattle.text.specs.Line.{Words, end, word, at_end, no_more, next_number, answered}
 use Rattle.text.specs.Text.{then, outcome, pixels_of, bytes_to_end}
 
 -- numbers that were read before those that are still to be read

@@ -1,25 +1,10 @@
 -- The steps of a reader: what a word that was read says of the next number, keyword or end.
-use Rattle.std.proofs.Common.{◌≡◌, ℕ, suc, ◌<◌, ◌≤◌, Bool, true, false, cond, ◌&&◌, eqb, ltb, leb, List, [], ◌∷◌, ◌++◌, length, Some, None, Ok, Err, Decides, Option, Result, sym, refl, ap, ◌∙◌, arith}
+use Rattle.std.proofs.Common.{◌≡◌, ℕ, suc, ◌<◌, ◌≤◌, Bool, true, false, cond, ◌&&◌, eqb, ltb, leb, List, [], ◌∷◌, ◌++◌, length, Some, None, Ok, Err, Option, Result, refl, ap, ◌∙◌, arith}
 use Rattle.frame.specs.declared.rejection.Rejection.{Rejection}
-use Rattle.frame.specs.declared.rejection.Rejection.TheVariants.{BadText}
-use Rattle.std.proofs.lemmas.Slice.Eq.{slice_eq-Decides, bytes_eq-Decides}
 use Rattle.std.proofs.lemmas.Bool.{and_parts, cond_both, leb-true, ne_eqb}
-use Rattle.std.proofs.lemmas.Bool.Decides.{same_from_decides, Decides-eqb}
-use Rattle.std.specs.Cmp.Lexicographic.{Matches}
 use Rattle.std.specs.Str.{all_ascii_digits}
 use Rattle.text.specs.declared.reader.LineReader.{LineReader}
-use Rattle.text.specs.Line.{Words, end, word, closed, words_from, left, bytes_of, position, rest, number_of, value, or_rejected, next_number, next_is, next_keyword, at_end}
-
--- a word as it was compared
-pub compared : (xs ys : List ℕ) (keyword : List ℕ) (ws : Words) (same : Bool) → Matches (λ (a b : ℕ) (t : Bool). Decides t (a ≡ b)) xs ys same →
-    xs ≡ bytes_of ws → ys ≡ keyword → next_is keyword ws ≡ same
-compared xs ys keyword ws same m e f = rw (sym e, sym f) (same_from_decides _ _ (bytes_eq-Decides xs ys) (slice_eq-Decides Decides-eqb xs ys same m))
-
-pub keyword_found : (keyword : List ℕ) (ws vs : Words) → next_is keyword ws ≡ true → vs ≡ rest ws → next_keyword keyword ws ≡ Ok (tt, vs)
-keyword_found keyword ws vs e f = rw (e, f)
-
-pub keyword_missing : (keyword : List ℕ) (ws : Words) (at : ℕ) → next_is keyword ws ≡ false → at ≡ position ws → next_keyword keyword ws ≡ Err (BadText at)
-keyword_missing keyword ws at e f = rw (e, f)
+use Rattle.text.specs.Line.{Words, end, word, closed, words_from, left, bytes_of, rest, number_of, value, or_rejected, next_number, at_end}
 
 -- what is read, or the given where it is rejected
 value_or : ℕ → Result (ℕ × Words) Rejection → ℕ

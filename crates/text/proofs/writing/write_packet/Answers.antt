@@ -1,7 +1,7 @@
 use Rattle.std.proofs.Common.{string_bytes, ap}
 use Rattle.text.proofs.Spacing.{packet_key, packet_plain}
 use Rattle.text.proofs.writing.write_packet.Goals as goal
-use Rattle.text.proofs.writing.write_packet.Goals.{then-key+in-ok-push-str, else-key}
+use Rattle.text.proofs.writing.write_packet.Goals.{then-key+in_ok-push_str, else-key}
 
 pub returns : goal.returns
 returns c =
@@ -11,6 +11,6 @@ returns c =
     let number = c.in_ok-line.ensures.ok in
     let numbers = c.in_ok-push_numbers.ensures in
     elim c.if-key.branch [
-      | then-key+in-ok-push-str w ↦ packet_key c.args.number c.args.key c.args.bytes.now front start line number numbers (string_bytes w.push_str.new.self) w.if-key.true w.in_ok-push_str.ensures.bytes (ap string_bytes w.line-is)
+      | then-key+in_ok-push_str w ↦ packet_key c.args.number c.args.key c.args.bytes.now front start line number numbers (string_bytes w.push_str.new.self) w.if-key.true w.in_ok-push_str.ensures.bytes (ap string_bytes w.line-is)
       | else-key w ↦ packet_plain c.args.number c.args.key c.args.bytes.now front start line number numbers w.if-key.false (ap string_bytes w.line-is)
     ]
