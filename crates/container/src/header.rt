@@ -10,7 +10,7 @@ use text::Header;
 pub fn write_header(header: Header, out: &mut Vec<u8>) -> Result<(), AllocError>
     ensures { out.new.items ≡ (if is_ok result then out.old.items ++ header_line header else out.old.items) }
 {
-    let mut line = text::write_header(out.allocator(), header)?;
+    let mut line = text::write_header(*out.allocator(), header)?;
     line.push('\n')?;
     out.extend_from_slice(line.as_bytes())
 }
