@@ -24,4 +24,4 @@ unfolding packed
 returns-in-Unsure c = packs _ _ c.in-Unsure.is c.requires _ refl
 
 pub returns-in-Rejected : goal.returns-in-Rejected
-returns-in-Rejected c = packs _ _ c.in-Rejected.is c.requires _ c.«pack-rejection».ensures
+returns-in-Rejected c = packs _ _ c.in-Rejected.is c.requires _ c.«pack_rejection».ensures
