@@ -3,7 +3,7 @@ use Rattle.console.proofs.Growing.{read_on}
 use Rattle.console.proofs.LineEnds.{by_end, by_limit, by_newline, ended_line, further, kept, unmoved}
 use Rattle.std.proofs.lemmas.Result.{err_from_is_err_and}
 use Rattle.console.proofs.source.Source.read_to_line_end.Goals as goal
-use Rattle.console.proofs.source.Source.read_to_line_end.Goals.{else-loop-test, then-loop-test+then-found, then-found-via-then-found, then-found-via-else-found+then-end-limit, then-found-via-else-found+else-end-limit+in-ok-read-more+then-not-branch}
+use Rattle.console.proofs.source.Source.read_to_line_end.Goals.{else-loop-test, then-loop-test+then-found, then-found-via-then-found, then-found-via-else-found+then-end-limit, then-found-via-else-found+else-end-limit+in_ok-read_more+then-not-branch}
 
 pub returns-in_err-read_more : goal.returns-in_err-read_more
 returns-in_err-read_more c =
@@ -41,7 +41,7 @@ returns c =
                   grown = c.loop.invariant.0;
                   line = ended_line _ _ _ _ (sym same) w.line_end-end.ensures.within none w.line_end-end.ensures.found (by_limit c.loop.self c.args.limit w.line_end-end.result (omega (arith, w'.if-end-limit.true)));
                 })
-            | then-found-via-else-found+else-end-limit+in-ok-read-more+then-not-branch w' ↦
+            | then-found-via-else-found+else-end-limit+in_ok-read_more+then-not-branch w' ↦
                 let unread = unmoved _ _ w'.read_more.ensures.grown (sym w'.in_ok-read_more.ensures.more ∙ w'.if-not-branch.true) in
                 rw (w.self-is, w.end-is, w'.self-is) (record {
                   grown = read_on _ _ _ c.loop.invariant.0 w'.read_more.ensures.grown;
