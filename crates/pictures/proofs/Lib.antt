@@ -3,5 +3,6 @@ pub mod Digits
 pub mod Fronts
 pub mod Numbers
 pub mod PaddedCorner
+pub mod PgmChecked
 pub mod PlainPgm
 pub mod ReadBack

@@ -1,8 +1,8 @@
 -- A padded picture has the picture in its upper left: the index taken apart gives back its column and row.
-use Rattle.std.proofs.Common.{◌≡◌, ℕ, ◌+◌, ◌-◌, ◌*◌, ◌/◌, ◌%◌, ◌<◌, ◌≤◌, min, max, List, get_or, sym, ap, ◌∙◌, arith}
+use Rattle.std.proofs.Common.{◌≡◌, ℕ, ◌+◌, ◌-◌, ◌*◌, ◌/◌, ◌%◌, ◌<◌, min, max, List, get_or, ap, ◌∙◌, arith}
 use native.Mathlib.Nat.{max-eq_left, min-eq_left}
 use lib.Arith.{digits_div, digits_mod}
-use Rattle.pictures.specs.Picture.{padded, padded_pixel}
+use Rattle.pictures.specs.Picture.{padded, padded_picture_pixel}
 
 module _ (width column row : ℕ) (inside : column < width) where
   wide : max (padded width) 1 ≡ padded width
@@ -15,7 +15,7 @@ module _ (width column row : ℕ) (inside : column < width) where
   row_back = ap (λ n. (row * padded width + column) / n) wide ∙ digits_div row (omega arith)
 
 pub kept : (pixels : List ℕ) (width height column row : ℕ) → column < width → row < height →
-    padded_pixel pixels width height (row * padded width + column) ≡ get_or pixels (row * width + column) 0
+    padded_picture_pixel pixels width height (row * padded width + column) ≡ get_or pixels (row * width + column) 0
 kept pixels width height column row inside below =
     let across : min column (width - 1) ≡ column = min-eq_left (omega arith) in
     let down : min row (height - 1) ≡ row = min-eq_left (omega arith) in

@@ -1,8 +1,10 @@
 -- A picture with a plain header is read: each number stands after one byte of whitespace, and ends before the next.
-use Rattle.std.proofs.Common.{◌≡◌, ℕ, ◌+◌, ◌-◌, ◌*◌, ◌^◌, ◌<◌, ◌≤◌, true, false, List, [], ◌∷◌, ◌++◌, length, get_or, take, drop, Ok, codes, decimal, sym, refl, ap, ◌∙◌, append_assoc, one-add, arith}
+use Rattle.std.proofs.Common.{◌≡◌, ℕ, ◌+◌, ◌*◌, ◌^◌, ◌<◌, ◌≤◌, true, false, List, [], ◌∷◌, ◌++◌, length, get_or, take, drop, Ok, codes, decimal, sym, refl, ap, ◌∙◌, append_assoc, one-add, arith}
 use Rattle.pictures.proofs.Numbers.{digits_of, size_decimal}
+use Rattle.pictures.proofs.PgmChecked.{all_there, header_then_pixels}
 use Rattle.pictures.specs.Bytes.{blank, size_of}
-use Rattle.pictures.specs.Pgm.{comment_after, gap, in_gap, number_at, pgm_of, plain_header}
+use Rattle.pictures.specs.Pgm.{comment_after, gap, in_gap, number_at, pgm_header_of, pgm_of, plain_header}
+use Rattle.pictures.specs.Faults.{then}
 use Rattle.pictures.specs.Layout.{located, picture_at}
 use Rattle.pictures.specs.declared.forms.Layout.TheVariants.{Pictures}
 use Rattle.pictures.specs.declared.forms.Pgm.{Pgm}
@@ -61,13 +63,16 @@ module _ (bytes front rest : List ℕ) (b c n offset : ℕ) (is : bytes ≡ fron
 module _ (bytes : List ℕ) (width height max : Number) (magic : bytes_eq (take 2 bytes) (codes "P5") ≡ true) (wide : number_at bytes 2 ≡ Ok width)
     (high : number_at bytes width.end ≡ Ok height) (most : number_at bytes height.end ≡ Ok max) (grey : max.value ≡ 255)
     (delimiter : blank (get_or bytes max.end 0) ≡ true) where
-  pub header_read : pgm_of bytes ≡ Ok (record { width = width.value; height = height.value; start = max.end + 1; end = max.end + 1 + width.value * height.value })
+  pub header_read : pgm_header_of bytes ≡ Ok (record { width = width.value; height = height.value; start = max.end + 1; end = max.end + 1 + width.value * height.value })
   header_read = rw (magic, wide, high, most, eq-eqb max.value 255 grey, delimiter)
 
 -- and all of whose pixels are there
-module _ (bytes : List ℕ) (picture : Pgm) (read : pgm_of bytes ≡ Ok picture) (enough : picture.end ≤ length bytes) where
-  pub picture_read : picture_at picture.width picture.height bytes ≡ Ok (record { start = picture.start; end = picture.end; next = picture.end })
-  picture_read = rw (read, eq-eqb picture.width _ refl, eq-eqb picture.height _ refl, le-leb _ (length bytes) enough)
+module _ (bytes : List ℕ) (picture : Pgm) (read : pgm_header_of bytes ≡ Ok picture) (enough : picture.end ≤ length bytes) where
+  pub picture_read : pgm_of bytes ≡ Ok picture
+  picture_read = sym (header_then_pixels bytes) ∙ ap (λ r. then r (all_there bytes)) read ∙ rw (le-leb _ (length bytes) enough)
+
+  pub picture_located : picture_at picture.width picture.height bytes ≡ Ok (record { start = picture.start; end = picture.end; next = picture.end })
+  picture_located = rw (read, eq-eqb picture.width _ refl, eq-eqb picture.height _ refl, le-leb _ (length bytes) enough)
 
 decimal_255 : decimal 255 ≡ codes "255"
 unfolding digits
@@ -152,14 +157,31 @@ module _ (width height : ℕ) (tail : List ℕ) where
   unfolding bytes
   magic_read = refl
 
-pub plain_picture : (width height : ℕ) (pixels more : List ℕ) → 0 < width → width < 2 ^ 16 → 0 < height → height < 2 ^ 16 → length pixels ≡ width * height →
-    located (Pictures width height) (plain_header width height ++ (pixels ++ more))
-    ≡ Ok (record { start = length (plain_header width height); end = length (plain_header width height) + length pixels; next = length (plain_header width height) + length pixels })
-unfolding bytes
-plain_picture width height pixels more p w q h l =
-    let tail = pixels ++ more in
-    let enough : at_delimiter width height + 1 + width * height ≤ length (bytes width height tail) = omega (arith, long_bytes width height tail, length-append pixels more) in
-    let read = header_read (bytes width height tail) _ _ _ (magic_read width height tail) (width_read width height tail p w) (height_read width height tail q h)
-    (max_read width height tail) refl (delimiter_read width height tail) in
-    picture_read (bytes width height tail) _ read enough
-    ∙ (λ i. Ok (record { start = long_header width height i; end = long_header width height i + sym l i; next = long_header width height i + sym l i }))
+-- A PICTURE WITH A PLAIN HEADER, whose pixels stand after it
+module _ (width height : ℕ) (pixels more : List ℕ) (p : 0 < width) (w : width < 2 ^ 16) (q : 0 < height) (h : height < 2 ^ 16) (l : length pixels ≡ width * height) where
+  tail : List ℕ
+  tail = pixels ++ more
+
+  read : pgm_header_of (bytes width height tail)
+      ≡ Ok (record { width = width; height = height; start = at_delimiter width height + 1; end = at_delimiter width height + 1 + width * height })
+  read =
+      header_read (bytes width height tail) _ _ _ (magic_read width height tail) (width_read width height tail p w) (height_read width height tail q h)
+      (max_read width height tail) refl (delimiter_read width height tail)
+
+  enough : at_delimiter width height + 1 + width * height ≤ length (bytes width height tail)
+  unfolding tail
+  enough = omega (arith, long_bytes width height tail, length-append pixels more)
+
+  pub plain_picture : pgm_of (plain_header width height ++ (pixels ++ more))
+      ≡ Ok (record { width = width; height = height; start = length (plain_header width height); end = length (plain_header width height) + length pixels })
+  unfolding bytes tail
+  plain_picture =
+      picture_read (bytes width height tail) _ read enough
+      ∙ (λ i. Ok (record { width = width; height = height; start = long_header width height i; end = long_header width height i + sym l i }))
+
+  pub plain_picture_located : located (Pictures width height) (plain_header width height ++ (pixels ++ more))
+      ≡ Ok (record { start = length (plain_header width height); end = length (plain_header width height) + length pixels; next = length (plain_header width height) + length pixels })
+  unfolding bytes tail
+  plain_picture_located =
+      picture_located (bytes width height tail) _ read enough
+      ∙ (λ i. Ok (record { start = long_header width height i; end = long_header width height i + sym l i; next = long_header width height i + sym l i }))

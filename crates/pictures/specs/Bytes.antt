@@ -10,7 +10,7 @@ abbrev pub not_byte : (delimiter : ℕ) → ℕ → Bool
 not_byte delimiter c = not (c == delimiter)
 
 abbrev pub not_space : ℕ → Bool
-not_space = not_byte 32
+not_space c = not (c == 32)
 
 -- A LINE IS CUT AT EVERY SPACE into one word or more, some of which may be empty.
 abbrev pub put_before : ℕ → List (List ℕ) → List (List ℕ)

@@ -2,7 +2,7 @@
 use Rattle.std.specs.Prelude.{ℕ, ◌+◌, ◌*◌, cond, ◌&&◌, List, length, take, Ok, codes, Result, ◌==◌, nat_le, nat_lt}
 use Rattle.pictures.specs.Bytes.{not_byte}
 use Rattle.pictures.specs.Faults.{required, then}
-use Rattle.pictures.specs.Pgm.{pgm_of}
+use Rattle.pictures.specs.Pgm.{pgm_header_of}
 use Rattle.pictures.specs.Y4m.{frame_line, header_of}
 use Rattle.pictures.specs.declared.error.Fault.TheVariants.{CutShort, NoFrame, NoLineEnd, OtherSize}
 use Rattle.pictures.specs.declared.error.PictureError.{PictureError}
@@ -34,7 +34,7 @@ y4m_opening bytes =
 
 abbrev pub pgm_opening : List ℕ → Result Opening PictureError
 pgm_opening bytes =
-    then (pgm_of bytes) λ first.
+    then (pgm_header_of bytes) λ first.
     Ok (record { layout = Pictures first.width first.height; start = 0 })
 
 abbrev pub width_of : Layout → ℕ
@@ -60,7 +60,7 @@ frame_at header bytes =
 -- A PICTURE OF A SEQUENCE has the size of the first.
 abbrev pub picture_at : (width height : ℕ) → List ℕ → Result PictureAt PictureError
 picture_at width height bytes =
-    then (pgm_of bytes) λ picture.
+    then (pgm_header_of bytes) λ picture.
     then (required (picture.width == width && picture.height == height) OtherSize 0) λ _.
     then (required (nat_le picture.end (length bytes)) CutShort (length bytes)) λ _.
     Ok (record { start = picture.start; end = picture.end; next = picture.end })

@@ -1,8 +1,8 @@
 -- Binary PGM pictures: what bytes mean. Assumes nothing: these are definitions.
-use Rattle.std.specs.Prelude.{ℕ, ◌+◌, ◌*◌, Bool, false, cond, not, ◌||◌, List, [], ◌∷◌, ◌++◌, take, drop, Ok, codes, decimal, Result, ◌==◌, nat_lt, slice_index}
+use Rattle.std.specs.Prelude.{ℕ, ◌+◌, ◌*◌, Bool, false, cond, not, ◌||◌, List, [], ◌∷◌, ◌++◌, length, take, drop, Ok, codes, decimal, Result, ◌==◌, nat_le, nat_lt, slice_index}
 use Rattle.pictures.specs.Bytes.{blank, size_of}
 use Rattle.pictures.specs.Faults.{or_fault, required, then}
-use Rattle.pictures.specs.declared.error.Fault.TheVariants.{BadMagic, BadMaxValue, BadNumber, NoDelimiter}
+use Rattle.pictures.specs.declared.error.Fault.TheVariants.{BadMagic, BadMaxValue, BadNumber, CutShort, NoDelimiter}
 use Rattle.pictures.specs.declared.error.PictureError.{PictureError}
 use Rattle.pictures.specs.declared.forms.Pgm.{Pgm}
 use Rattle.pictures.specs.declared.pgm_parsing.Number.{Number}
@@ -32,9 +32,23 @@ number_at bytes offset =
     Ok (record { value = n; start = start; end = end })
 
 -- A PICTURE: P5, the width, the height, 255, one byte of whitespace, and a byte for each pixel, row by row. What follows
--- is no part of it. Where its pixels end is known by its header, before they are there.
+-- is no part of it.
 abbrev pub pgm_of : (bytes : List ℕ) → Result Pgm PictureError
 pgm_of bytes =
+    then (required (bytes_eq (take 2 bytes) (codes "P5")) BadMagic 0) λ _.
+    then (number_at bytes 2) λ width.
+    then (number_at bytes width.end) λ height.
+    then (number_at bytes height.end) λ max.
+    then (required (max.value == 255) BadMaxValue max.start) λ _.
+    then (required (blank (slice_index bytes max.end)) NoDelimiter max.end) λ _.
+    let start = max.end + 1 in
+    let end = start + width.value * height.value in
+    then (required (nat_le end (length bytes)) CutShort (length bytes)) λ _.
+    Ok (record { width = width.value; height = height.value; start = start; end = end })
+
+-- ITS HEADER ALONE says where its pixels end, before they are there.
+abbrev pub pgm_header_of : (bytes : List ℕ) → Result Pgm PictureError
+pgm_header_of bytes =
     then (required (bytes_eq (take 2 bytes) (codes "P5")) BadMagic 0) λ _.
     then (number_at bytes 2) λ width.
     then (number_at bytes width.end) λ height.

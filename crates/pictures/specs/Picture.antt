@@ -1,5 +1,5 @@
 -- The strip below a played picture, and pictures that are padded to whole blocks. Assumes nothing: these are definitions.
-use Rattle.std.specs.Prelude.{ℕ, ◌+◌, ◌-◌, ◌*◌, ◌/◌, ◌%◌, min, max, Bool, true, false, cond, List, map, ◌==◌, slice_index}
+use Rattle.std.specs.Prelude.{ℕ, ◌+◌, ◌-◌, ◌*◌, ◌/◌, ◌%◌, min, max, Bool, true, false, cond, List, map, length, ◌==◌, slice_index}
 use Rattle.pictures.specs.declared.forms.Mark.{Mark}
 use Rattle.pictures.specs.declared.forms.Mark.TheVariants.{Nothing, Sure, Unsure}
 use Rattle.std.specs.List.{range_with_len}
@@ -11,6 +11,10 @@ mark_pixel Sure column = 235
 mark_pixel Unsure column = cond (column / 4 % 2 == 0) 16 235
 mark_pixel Nothing column = 16
 
+abbrev pub marked_row : Mark → (width : ℕ) → List ℕ
+marked_row mark width = map (mark_pixel mark) (range_with_len 0 width)
+
+-- the pixel at an index of the whole strip
 abbrev pub strip_pixel : Mark → (width index : ℕ) → ℕ
 strip_pixel mark width index = mark_pixel mark (index % max width 1)
 
@@ -23,20 +27,27 @@ mark_of false sure = Nothing
 mark_of true true = Sure
 mark_of true false = Unsure
 
--- PADDING goes to the next multiple of four, and repeats the last column and the last row. A pixel past the end is 0.
+-- PADDING goes to the next multiple of four, and repeats the last pixel. A row of no pixels is padded with 0.
 abbrev pub padded : ℕ → ℕ
 padded size = (size + 3) / 4 * 4
 
+abbrev pub padded_pixel : List ℕ → (column : ℕ) → ℕ
+padded_pixel pixels column = slice_index pixels (min column (length pixels - 1))
+
+abbrev pub padded_row : List ℕ → (width : ℕ) → List ℕ
+padded_row pixels width = map (padded_pixel pixels) (range_with_len 0 width)
+
+-- A PADDED PICTURE repeats the last column and the last row. A pixel that the picture lacks is 0.
 -- the pixel at an index of the padded picture
-abbrev pub padded_pixel : List ℕ → (width height : ℕ) → (index : ℕ) → ℕ
-padded_pixel pixels width height index =
+abbrev pub padded_picture_pixel : List ℕ → (width height : ℕ) → (index : ℕ) → ℕ
+padded_picture_pixel pixels width height index =
     let across = max (padded width) 1 in
     let column = min (index % across) (width - 1) in
     let row = min (index / across) (height - 1) in
     slice_index pixels (row * width + column)
 
 abbrev pub padded_picture : List ℕ → (width height : ℕ) → (size : ℕ) → List ℕ
-padded_picture pixels width height size = map (padded_pixel pixels width height) (range_with_len 0 size)
+padded_picture pixels width height size = map (padded_picture_pixel pixels width height) (range_with_len 0 size)
 
 -- KEY FRAMES AT AN INTERVAL: the first picture, and each that is a multiple of the interval after it
 abbrev pub key_frame : (interval number : ℕ) → Bool

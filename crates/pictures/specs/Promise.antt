@@ -2,7 +2,7 @@
 use Rattle.std.specs.Prelude.{◌≡◌, ℕ, ◌+◌, ◌*◌, ◌%◌, ◌^◌, ◌<◌, ◌≤◌, true, false, List, ◌++◌, length, Some, None, Ok, codes, ◌≢◌, slice_index}
 use Rattle.pictures.specs.Bytes.{cut}
 use Rattle.pictures.specs.Faults.{fault_at}
-use Rattle.pictures.specs.Picture.{padded, padded_pixel}
+use Rattle.pictures.specs.Picture.{padded, padded_picture_pixel}
 use Rattle.pictures.specs.Pgm.{pgm_of, plain_header}
 use Rattle.pictures.specs.Layout.{form_of, located, y4m_opening}
 use Rattle.pictures.specs.Y4m.{frame_line, header_of, header_text, line_of, rate_of}
@@ -22,6 +22,12 @@ ReadsBack = (width height : ℕ) (rate : FrameRate) → 0 < width → width < 2 
 -- end where their digits do.
 abbrev pub PlainPicture : Type 0
 PlainPicture = (width height : ℕ) (pixels more : List ℕ) → 0 < width → width < 2 ^ 16 → 0 < height → height < 2 ^ 16 → length pixels ≡ width * height →
+    pgm_of (plain_header width height ++ (pixels ++ more))
+    ≡ Ok (record { width = width; height = height; start = length (plain_header width height); end = length (plain_header width height) + length pixels })
+
+-- AND IN A FILE OF PICTURES OF ITS SIZE IT IS FOUND there, and the next begins where its pixels end.
+abbrev pub PlainPictureLocated : Type 0
+PlainPictureLocated = (width height : ℕ) (pixels more : List ℕ) → 0 < width → width < 2 ^ 16 → 0 < height → height < 2 ^ 16 → length pixels ≡ width * height →
     located (Pictures width height) (plain_header width height ++ (pixels ++ more))
     ≡ Ok (record { start = length (plain_header width height); end = length (plain_header width height) + length pixels; next = length (plain_header width height) + length pixels })
 
@@ -39,7 +45,7 @@ pub record PadsToBlocks : Type 0 where
 -- A PADDED PICTURE HAS THE PICTURE IN ITS UPPER LEFT, since a column or a row is repeated only past the last.
 abbrev pub PaddingKeeps : Type 0
 PaddingKeeps = (pixels : List ℕ) (width height column row : ℕ) → column < width → row < height →
-    padded_pixel pixels width height (row * padded width + column) ≡ slice_index pixels (row * width + column)
+    padded_picture_pixel pixels width height (row * padded width + column) ≡ slice_index pixels (row * width + column)
 
 -- WORKED EXAMPLES
 pub record Examples : Type 0 where
@@ -58,7 +64,8 @@ pub record Examples : Type 0 where
   pub no_frame : frame_line (codes "FRAMES") ≡ false
   pub picture : pgm_of (codes "P5\n# 2 by 1\n2 1\n255\nab") ≡ Ok (record { width = 2; height = 1; start = 20; end = 22 })
   pub two_pictures : pgm_of (codes "P5 2 1 255 abP5 1 1 255 c") ≡ Ok (record { width = 2; height = 1; start = 11; end = 13 })
-  pub cut_short : located (Pictures 2 1) (codes "P5 2 1 255 a") ≡ fault_at CutShort 12
+  pub cut_short : pgm_of (codes "P5 2 1 255 a") ≡ fault_at CutShort 12
+  pub cut_short_located : located (Pictures 2 1) (codes "P5 2 1 255 a") ≡ fault_at CutShort 12
   pub other_size : located (Pictures 2 1) (codes "P5 1 1 255 a") ≡ fault_at OtherSize 0
   pub stream : y4m_opening (codes "YUV4MPEG2 W2 H1 Cmono\nFRAME\nab") ≡ Ok (record { layout = Frames (record { width = 2; height = 1; chroma = 0 }); start = 22 })
   pub unended : y4m_opening (codes "YUV4MPEG2 W2 H1") ≡ fault_at NoLineEnd 15

@@ -14,9 +14,9 @@ pub struct FrameRate {
     pub seconds: u32,
 }
 
-// A picture whose header ends at `start`. Its pixels stand from there up to `end`, where the next picture begins.
+// A picture whose pixels stand from `start` up to `end`, where the next picture begins.
 #[derive(Clone, Copy)]
-pub(crate) struct Pgm {
+pub struct Pgm {
     pub width: u16,
     pub height: u16,
     pub start: usize,

@@ -4,7 +4,7 @@ ghost use Rattle.pictures.specs.Layout.{form_of, frame_at, height_of, located, p
 
 use crate::error::{Fault, PictureError};
 use crate::forms::{Form, Layout, Opening, PictureAt, Y4mHeader};
-use crate::pgm_parsing::parse_pgm;
+use crate::pgm_parsing::parse_pgm_header;
 use crate::steps::require;
 use crate::words::{begins_with, run_end};
 use crate::y4m::{is_y4m_frame_line, parse_y4m_header};
@@ -39,7 +39,7 @@ pub fn open_y4m(bytes: &[u8]) -> Result<Opening, PictureError>
 pub fn open_pgm(bytes: &[u8]) -> Result<Opening, PictureError>
     ensures { result ≡ pgm_opening bytes.now }
 {
-    let first = parse_pgm(bytes)?;
+    let first = parse_pgm_header(bytes)?;
     Ok(Opening {
         layout: Layout::Pictures(first.width, first.height),
         start: 0,
@@ -70,7 +70,7 @@ fn locate_picture(width: u16, height: u16, bytes: &[u8]) -> Result<PictureAt, Pi
     ensures value { result ≡ picture_at width height bytes.now }
     ensures within { IfOk result (λ p. (p.start ≤ p.end) × (p.end ≤ p.next) × (p.next ≤ length bytes.now)) }
 {
-    let picture = parse_pgm(bytes)?;
+    let picture = parse_pgm_header(bytes)?;
     let same = picture.width == width && picture.height == height;
     require(same, Fault::OtherSize, 0)?;
     require(picture.end <= bytes.len(), Fault::CutShort, bytes.len())?;

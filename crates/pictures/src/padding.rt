@@ -1,6 +1,6 @@
 // Pictures whose width or height is no multiple of four: the last column and row are repeated.
 ghost use Rattle.std.specs.Prelude.{◌≡◌, ◌+◌, ◌/◌, length};
-ghost use Rattle.pictures.specs.Picture.{padded, padded_picture, padded_pixel};
+ghost use Rattle.pictures.specs.Picture.{padded, padded_picture, padded_picture_pixel, padded_pixel, padded_row};
 
 use crate::steps::byte_at;
 
@@ -12,15 +12,35 @@ pub fn block_count(size: u16) -> u64
 }
 
 // The next multiple of four.
-fn padded_size(size: u16) -> usize
+pub fn padded_size(size: u16) -> usize
     ensures { result ≡ padded size }
 {
     (usize::from(size) + 3) / 4 * 4
 }
 
+// The pixel in a column, and past the end the last one.
+fn padded_pixel(pixels: &[u8], column: usize) -> u8
+    ensures { result ≡ padded_pixel pixels.now column }
+{
+    if pixels.is_empty() {
+        0
+    } else {
+        pixels[column.min(pixels.len() - 1)]
+    }
+}
+
+// Fills a row with pixels, and past their end with the last of them.
+pub fn pad_row(pixels: &[u8], row: &mut [u8])
+    ensures { row.new ≡ padded_row pixels.now (length row.old) }
+{
+    for column in 0..row.len() {
+        row[column] = padded_pixel(pixels, column);
+    }
+}
+
 // The pixel at an index of the padded picture.
-fn padded_pixel(pixels: &[u8], width: u16, height: u16, index: usize) -> u8
-    ensures { result ≡ padded_pixel pixels.now width height index }
+fn picture_pixel(pixels: &[u8], width: u16, height: u16, index: usize) -> u8
+    ensures { result ≡ padded_picture_pixel pixels.now width height index }
 {
     let across = padded_size(width).max(1);
     let column = (index % across).min(usize::from(width.saturating_sub(1)));
@@ -33,6 +53,6 @@ pub fn pad_picture(pixels: &[u8], width: u16, height: u16, picture: &mut [u8])
     ensures { picture.new ≡ padded_picture pixels.now width height (length picture.old) }
 {
     for index in 0..picture.len() {
-        picture[index] = padded_pixel(pixels, width, height, index);
+        picture[index] = picture_pixel(pixels, width, height, index);
     }
 }

@@ -1,7 +1,7 @@
 // Binary PGM pictures.
 ghost use Rattle.std.specs.Prelude.{◌≡◌, ◌+◌, ◌*◌, ◌≤◌, false, length, drop, IfOk};
 ghost use Rattle.pictures.specs.Bytes.{blank};
-ghost use Rattle.pictures.specs.Pgm.{comment_after, gap, in_gap, number_at, pgm_of};
+ghost use Rattle.pictures.specs.Pgm.{comment_after, gap, in_gap, number_at, pgm_header_of, pgm_of};
 ghost use Rattle.std.specs.Char.{is_ascii_digit};
 ghost use Rattle.std.specs.List.{prefix_len};
 
@@ -86,8 +86,8 @@ fn read_number(bytes: &[u8], offset: usize) -> Result<Number, PictureError>
 }
 
 // Reads the header that the bytes begin with. The pixels need not be there yet.
-pub(crate) fn parse_pgm(bytes: &[u8]) -> Result<Pgm, PictureError>
-    ensures value { result ≡ pgm_of bytes.now }
+pub(crate) fn parse_pgm_header(bytes: &[u8]) -> Result<Pgm, PictureError>
+    ensures value { result ≡ pgm_header_of bytes.now }
     ensures sizes { IfOk result (λ p. p.start + p.width * p.height ≡ p.end) }
 {
     require(bytes.starts_with(b"P5"), Fault::BadMagic, 0)?;
@@ -104,4 +104,14 @@ pub(crate) fn parse_pgm(bytes: &[u8]) -> Result<Pgm, PictureError>
         start,
         end: start + usize::from(width.value) * usize::from(height.value),
     })
+}
+
+// Reads the picture that the bytes begin with.
+pub fn parse_pgm(bytes: &[u8]) -> Result<Pgm, PictureError>
+    ensures value { result ≡ pgm_of bytes.now }
+    ensures within { IfOk result (λ p. (p.start + p.width * p.height ≡ p.end) × (p.end ≤ length bytes.now)) }
+{
+    let picture = parse_pgm_header(bytes)?;
+    require(picture.end <= bytes.len(), Fault::CutShort, bytes.len())?;
+    Ok(picture)
 }

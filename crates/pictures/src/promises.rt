@@ -1,5 +1,5 @@
 // The theorems about the picture formats, each as a contract.
-ghost use Rattle.pictures.specs.Promise.{CutAtSpaces, Examples, PaddingKeeps, PadsToBlocks, PlainPicture, ReadsBack};
+ghost use Rattle.pictures.specs.Promise.{CutAtSpaces, Examples, PaddingKeeps, PadsToBlocks, PlainPicture, PlainPictureLocated, ReadsBack};
 
 pub fn reads_back() -> u8
     ensures { ReadsBack }
@@ -9,6 +9,12 @@ pub fn reads_back() -> u8
 
 pub fn plain_picture() -> u8
     ensures { PlainPicture }
+{
+    0
+}
+
+pub fn plain_picture_located() -> u8
+    ensures { PlainPictureLocated }
 {
     0
 }

@@ -1,12 +1,12 @@
 // The strip below a played picture, which says whether the receiver is sure of it.
-ghost use Rattle.std.specs.Prelude.{◌≡◌, ◌++◌, OnOk};
-ghost use Rattle.pictures.specs.Picture.{mark_of, mark_pixel, marked_strip, strip_pixel};
+ghost use Rattle.std.specs.Prelude.{◌≡◌, ◌++◌, length, OnOk};
+ghost use Rattle.pictures.specs.Picture.{mark_of, mark_pixel, marked_row, marked_strip, strip_pixel};
 
 use crate::forms::Mark;
 use std::alloc::AllocError;
 
 // How many rows the strip has. Each is the same.
-pub const MARK_ROWS: u16 = 4;
+pub const MARK_ROWS: usize = 4;
 
 const BLACK: u8 = 16;
 
@@ -36,6 +36,15 @@ fn mark_pixel(mark: Mark, column: usize) -> u8
     }
 }
 
+// Fills a row of the strip.
+pub fn mark_row(mark: Mark, row: &mut [u8])
+    ensures { row.new ≡ marked_row mark (length row.old) }
+{
+    for column in 0..row.len() {
+        row[column] = mark_pixel(mark, column);
+    }
+}
+
 // The strip's pixel at an index.
 fn strip_pixel(mark: Mark, width: u16, index: usize) -> u8
     ensures { result ≡ strip_pixel mark width index }
@@ -47,7 +56,7 @@ fn strip_pixel(mark: Mark, width: u16, index: usize) -> u8
 pub(crate) fn push_strip(mark: Mark, width: u16, frame: &mut Vec<u8>) -> Result<(), AllocError>
     ensures { OnOk result (frame.new.items ≡ frame.old.items ++ marked_strip mark width) }
 {
-    for index in 0..usize::from(MARK_ROWS) * usize::from(width) {
+    for index in 0..MARK_ROWS * usize::from(width) {
         frame.push(strip_pixel(mark, width, index))?;
     }
     Ok(())

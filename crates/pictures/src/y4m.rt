@@ -1,5 +1,5 @@
 // Y4M streams: a header line, and for each frame a line and its bytes.
-ghost use Rattle.std.specs.Prelude.{◌≡◌, IfOk, string_bytes};
+ghost use Rattle.std.specs.Prelude.{◌≡◌, IfOk, string_bytes, codes};
 ghost use Rattle.pictures.specs.Y4m.{frame_bytes, frame_line, header_of, header_text};
 
 use crate::error::{Fault, PictureError};
@@ -10,7 +10,7 @@ use crate::y4m_tags::Tags;
 use std::alloc::{AllocError, Global};
 
 // Reads a header line, without its newline.
-pub(crate) fn parse_y4m_header(line: &[u8]) -> Result<Y4mHeader, PictureError>
+pub fn parse_y4m_header(line: &[u8]) -> Result<Y4mHeader, PictureError>
     ensures { result ≡ header_of line.now }
 {
     let mut end = word_end(line, 0);
@@ -27,7 +27,7 @@ pub(crate) fn parse_y4m_header(line: &[u8]) -> Result<Y4mHeader, PictureError>
 }
 
 // Whether the line, without its newline, begins a frame. Words after the first are its parameters.
-pub(crate) fn is_y4m_frame_line(line: &[u8]) -> bool
+pub fn is_y4m_frame_line(line: &[u8]) -> bool
     ensures { result ≡ frame_line line.now }
 {
     let end = word_end(line, 0);
@@ -45,6 +45,13 @@ pub fn write_y4m_header(
 {
     let FrameRate { frames, seconds } = rate;
     format!(in heap; "YUV4MPEG2 W{width} H{height} F{frames}:{seconds} Ip A1:1 Cmono")
+}
+
+// The line that begins each frame, without its newline.
+pub fn y4m_frame_line() -> &'static str
+    ensures { result.now ≡ codes "FRAME" }
+{
+    "FRAME"
 }
 
 // A frame of a grey stream: its line, the picture, and below it the strip that marks it.

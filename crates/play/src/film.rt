@@ -27,7 +27,7 @@ impl Film {
     ) -> Result<Film, Refusal> {
         let heap = rt.alloc();
         let width = 4 * format.across() as u16;
-        let height = 4 * format.down() as u16 + MARK_ROWS;
+        let height = 4 * format.down() as u16 + MARK_ROWS as u16;
         let rate = rate.unwrap_or(USUAL_RATE);
         let mut line = pictures::write_y4m_header(heap, width, height, rate)?;
         line.push('\n')?;

@@ -24,6 +24,7 @@ returns c =
       picture = refl;
       two_pictures = refl;
       cut_short = refl;
+      cut_short_located = refl;
       other_size = refl;
       stream = refl;
       unended = refl;
