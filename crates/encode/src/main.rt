@@ -10,6 +10,7 @@ mod wish;
 
 use console::{Input, Refusal, Source};
 use pictures::Form;
+use std::process::ExitCode;
 
 const HELP: &str = "encode [--step S] [--key N] [--out FILE] [FILE]
 Reads pictures from a file, or from standard input if there is none or it is -, and writes packets as text; with --out
@@ -47,6 +48,9 @@ fn run(rt: &HostRuntime) -> Result<(), Refusal> {
     }
 }
 
-fn main(rt: HostRuntime) -> Result<(), Refusal> {
-    console::report(&rt, "encode", run(&rt))
+fn main(rt: HostRuntime) -> ExitCode {
+    match console::report(&rt, "encode", run(&rt)) {
+        Ok(()) => ExitCode::SUCCESS,
+        Err(_) => ExitCode::FAILURE,
+    }
 }

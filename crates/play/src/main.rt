@@ -9,6 +9,7 @@ mod wish;
 use console::{Input, PacketSource, Refusal, Source};
 use frame::{Format, FrameHeader, Rejection};
 use std::alloc::Global;
+use std::process::ExitCode;
 use stream::Screen;
 use text::{Header, TextError};
 use view::View;
@@ -98,6 +99,9 @@ fn run(rt: &HostRuntime) -> Result<(), Refusal> {
     }
 }
 
-fn main(rt: HostRuntime) -> Result<(), Refusal> {
-    console::report(&rt, "play", run(&rt))
+fn main(rt: HostRuntime) -> ExitCode {
+    match console::report(&rt, "play", run(&rt)) {
+        Ok(()) => ExitCode::SUCCESS,
+        Err(_) => ExitCode::FAILURE,
+    }
 }

@@ -9,6 +9,7 @@ mod wish;
 use air::Air;
 use console::{Input, PacketSource, Refusal, Source};
 use std::alloc::Global;
+use std::process::ExitCode;
 use wish::Wish;
 
 const HELP: &str = "radio [--binary] [SEED [LOST [DOUBLED [LATE]]]]
@@ -77,6 +78,9 @@ fn run(rt: &HostRuntime) -> Result<(), Refusal> {
     air.end(rt)
 }
 
-fn main(rt: HostRuntime) -> Result<(), Refusal> {
-    console::report(&rt, "radio", run(&rt))
+fn main(rt: HostRuntime) -> ExitCode {
+    match console::report(&rt, "radio", run(&rt)) {
+        Ok(()) => ExitCode::SUCCESS,
+        Err(_) => ExitCode::FAILURE,
+    }
 }
