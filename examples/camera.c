@@ -1,7 +1,7 @@
 /* Codes a picture and shows it again, by way of include/zukhtavo.h.
  *
- *   rt staticlib camera
- *   cc -std=c99 -Wall -Wextra -Iinclude examples/camera.c target/staticlib/libcamera.a KIT/lib/librattle_c.a -o camera
+ *   ./build
+ *   cc -std=c99 -Wall -Wextra -Iinclude examples/camera.c target/staticlib/libcamera.a -o camera
  *
  * It prints what it got, and fails if a pixel shown is further than half a step from its source. */
 #include <inttypes.h>

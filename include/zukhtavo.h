@@ -9,7 +9,7 @@
  * The calls keep nothing, take no memory from the heap, and can be made from several threads at once;
  * each needs less than 128 KiB of stack (measured, not proved).
  *
- * Link libcamera.a and then librattle_c.a. */
+ * Link libcamera.a, which ./build leaves in target/staticlib. */
 #ifndef ZUKHTAVO_H
 #define ZUKHTAVO_H
 

@@ -1,4 +1,4 @@
-// The functions for C. A slice is a pointer and a length, and a flag is set unless it is 0.
+// The functions for C, which `camera_c` exports. A slice is a pointer and a length there, and a flag is set unless it is 0.
 ghost use Rattle.camera.specs.Camera.{CodeAnswers, ReceiveAnswers, ShowAnswers, format_in, is_set, packet_in, worst_case_answer};
 ghost use Rattle.camera.specs.Packed.{Packs};
 ghost use Rattle.frame.specs.Rejection.{format_rejection};
@@ -11,8 +11,7 @@ use frame::{Format, ShowResult};
 use stream::Receiver;
 
 // How many bytes any frame of a format fits in.
-#[unsafe(no_mangle)]
-pub extern "C" fn zukhtavo_worst_case(across: u64, down: u64, step: u64) -> u64
+pub fn zukhtavo_worst_case(across: u64, down: u64, step: u64) -> u64
     ensures { Packs (worst_case_answer (format_rejection across down step) (format_in across down step)) result }
 {
     match Format::new(across, down, step) {
@@ -22,8 +21,7 @@ pub extern "C" fn zukhtavo_worst_case(across: u64, down: u64, step: u64) -> u64
 }
 
 // Codes a source picture as a frame: its bytes go to the buffer, and the picture that they mean to the output.
-#[unsafe(no_mangle)]
-pub extern "C" fn zukhtavo_code(
+pub fn zukhtavo_code(
     across: u64,
     down: u64,
     step: u64,
@@ -51,8 +49,7 @@ pub extern "C" fn zukhtavo_code(
 }
 
 // Shows a frame in the output.
-#[unsafe(no_mangle)]
-pub extern "C" fn zukhtavo_show(
+pub fn zukhtavo_show(
     across: u64,
     down: u64,
     step: u64,
@@ -71,8 +68,7 @@ pub extern "C" fn zukhtavo_show(
 }
 
 // Receives a packet: the picture is shown anew, or stays as it is.
-#[unsafe(no_mangle)]
-pub extern "C" fn zukhtavo_receive(
+pub fn zukhtavo_receive(
     across: u64,
     down: u64,
     step: u64,

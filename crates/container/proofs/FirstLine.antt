@@ -7,7 +7,7 @@ use Rattle.std.proofs.lemmas.Fmt.{decimal_by_steps}
 use Rattle.std.proofs.lemmas.List.{append_assoc, at_drop_all, at_drop_more, length-append, take_at}
 use Rattle.std.proofs.lemmas.Bool.{eq-eqb, ne_eqb}
 use Rattle.std.proofs.lemmas.Str.{IsUtf8-from_ascii}
-use Rattle.std.specs.List.{AllByRecursion as All}
+use Rattle.std.specs.List.{AllByRecursion}
 use Rattle.text.specs.Text.{header_of, header_text, header_words, line_of, spaced}
 use Rattle.text.specs.declared.forms.Header.{Header}
 
@@ -35,26 +35,26 @@ module _ (file : List ℕ) (index : ℕ) (so_far : index + line_length (drop ind
 abbrev InLine : ℕ → Type 0
 InLine c = (10 < c) × (c < 128)
 
-line_of_text : (text tail : List ℕ) → All InLine text → line_length (text ++ 10 ∷ tail) ≡ length text
+line_of_text : (text tail : List ℕ) → AllByRecursion InLine text → line_length (text ++ 10 ∷ tail) ≡ length text
 line_of_text [] tail a = line_ends 10 tail refl
 line_of_text (c ∷ cs) tail a =
     line_goes_on c (cs ++ 10 ∷ tail) (λ e. (let f : ⊥ = omega (arith, a.0) in f)) ∙ ap suc (line_of_text cs tail a.1)
 
-decimal_in_line : (n : ℕ) → n < 2 ^ 64 → All InLine (decimal n)
+decimal_in_line : (n : ℕ) → n < 2 ^ 64 → AllByRecursion InLine (decimal n)
 decimal_in_line n h =
-    decimal_by_steps (λ _ ds. All InLine ds) (λ m l. ((omega arith, omega arith), tt))
+    decimal_by_steps (λ _ ds. AllByRecursion InLine ds) (λ m l. ((omega arith, omega arith), tt))
     (λ m ds l a. All-push InLine ds (48 + m % 10) a (omega arith, omega arith)) n h
 
-spaced_in_line : (ws : List (List ℕ)) → All (All InLine) ws → All InLine (spaced ws)
+spaced_in_line : (ws : List (List ℕ)) → AllByRecursion (AllByRecursion InLine) ws → AllByRecursion InLine (spaced ws)
 spaced_in_line [] a = tt
 spaced_in_line (w ∷ ws) a = ((omega arith, omega arith), All-append InLine w (spaced ws) a.0 (spaced_in_line ws a.1))
 
-words_in_line : (ws : List (List ℕ)) → All (All InLine) ws → All InLine (line_of ws)
+words_in_line : (ws : List (List ℕ)) → AllByRecursion (AllByRecursion InLine) ws → AllByRecursion InLine (line_of ws)
 words_in_line [] a = tt
 words_in_line (w ∷ ws) a = All-append InLine w (spaced ws) a.0 (spaced_in_line ws a.1)
 
 -- text with a newline after it is a file's first line
-module _ (text tail : List ℕ) (in_line : All InLine text) where
+module _ (text tail : List ℕ) (in_line : AllByRecursion InLine text) where
   same_file : (text ++ 10 ∷ []) ++ tail ≡ text ++ 10 ∷ tail
   same_file = append_assoc text (10 ∷ []) tail
 
@@ -77,6 +77,6 @@ module _ (text tail : List ℕ) (in_line : All InLine text) where
 pub header_reads : (h : Header) → h.across < 2 ^ 64 → h.down < 2 ^ 64 → h.step < 2 ^ 64 → header_of (header_text h) ≡ Ok h
     → (tail : List ℕ) (answer : Result (Header × ℕ) Rejection) → HeaderRead (header_line h ++ tail) answer → answer ≡ Ok (h, length (header_line h))
 header_reads h across down step back tail answer r =
-    let in_line : All InLine (header_text h) = words_in_line (header_words h)
+    let in_line : AllByRecursion InLine (header_text h) = words_in_line (header_words h)
     (search rules, (decimal_in_line h.across across, (decimal_in_line h.down down, (search rules, (decimal_in_line h.step step, tt))))) in
     text_reads (header_text h) tail in_line back answer r

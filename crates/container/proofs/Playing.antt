@@ -17,7 +17,7 @@ use Rattle.std.proofs.lemmas.List.{append-nil, drop_at, length-append, length-dr
 use Rattle.std.proofs.lemmas.Result.{IfOk-at_ok}
 use Rattle.std.proofs.lemmas.Bool.{cases_lt, eq-eqb, ne_eqb}
 use Rattle.std.proofs.lemmas.Bool.Decides.{nat_tests}
-use Rattle.std.specs.List.{AllByRecursion as All}
+use Rattle.std.specs.List.{AllByRecursion}
 
 -- THE STEPS of playing a file from a position on
 pub data Plays (file : List ℕ) : ℕ → List Packet → Result (Unit {0}) Rejection → Type 0 where
@@ -60,7 +60,7 @@ module _ (file : List ℕ) (position : ℕ) (p : Packet) (tail : List ℕ) (rang
   after_packet : drop (position + (located p).end) file ≡ tail
   after_packet = from_next file position (packet_bytes p ++ tail) from (located p).end ∙ drop_at (packet_bytes p) tail (located p).end (packet_size p)
 
-pub plays_written : (file : List ℕ) (position : ℕ) (ps : List Packet) → All InRange ps → drop position file ≡ file_bytes ps → Plays file position ps (Ok tt)
+pub plays_written : (file : List ℕ) (position : ℕ) (ps : List Packet) → AllByRecursion InRange ps → drop position file ≡ file_bytes ps → Plays file position ps (Ok tt)
 plays_written file position [] r from = done position (from_none file position [] from refl)
 plays_written file position (p ∷ ps) r from =
     packet_steps file position p (file_bytes ps) r.0 from ps (Ok tt)
@@ -128,7 +128,7 @@ cut_later file position p ps kept r from c =
           (packet_steps file position p (take kept (file_bytes ps)) r from c.whole (cut_ending (position + (located p).end) kept n) c.steps);
     }
 
-plays_cut : (file : List ℕ) (position : ℕ) (ps : List Packet) (kept : ℕ) → All InRange ps → kept ≤ length (file_bytes ps) → drop position file ≡ take kept (file_bytes ps)
+plays_cut : (file : List ℕ) (position : ℕ) (ps : List Packet) (kept : ℕ) → AllByRecursion InRange ps → kept ≤ length (file_bytes ps) → drop position file ≡ take kept (file_bytes ps)
     → CutSteps file position ps kept
 plays_cut file position [] kept r h from =
     let z : kept ≡ 0 = omega arith in
@@ -152,7 +152,7 @@ plays_cut file position (p ∷ ps) kept r h from = elim (cases_lt kept (length (
       (after_packet file position p (take k (file_bytes ps)) r.0 f)))
 ]
 
-pub cut_play : (file : List ℕ) (position : ℕ) (ps : List Packet) (kept : ℕ) → All InRange ps → kept ≤ length (file_bytes ps)
+pub cut_play : (file : List ℕ) (position : ℕ) (ps : List Packet) (kept : ℕ) → AllByRecursion InRange ps → kept ≤ length (file_bytes ps)
     → drop position file ≡ take kept (file_bytes ps) → CutPlay position ps kept (played file position)
 cut_play file position ps kept r h from =
     let c = plays_cut file position ps kept r h from in
@@ -167,7 +167,7 @@ cut_play file position ps kept r h from =
     }
 
 -- A FILE THAT PLAYS TO ITS END has the bytes that its packets are written as
-pub written_form : (most : ℕ) (file : List ℕ) (position : ℕ) (bytes : List ℕ) → drop position file ≡ bytes → All (λ b. b < 256) bytes → length bytes < most
+pub written_form : (most : ℕ) (file : List ℕ) (position : ℕ) (bytes : List ℕ) → drop position file ≡ bytes → AllByRecursion (λ b. b < 256) bytes → length bytes < most
     → (play most file position).ending ≡ Ok tt → bytes ≡ file_bytes (play most file position).packets
 unfolding play
 written_form zero file position bytes from below h e = absurd (let f : ⊥ = omega arith in f)

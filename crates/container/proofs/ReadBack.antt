@@ -10,7 +10,7 @@ use Rattle.container.proofs.Varints.{Sized, read_sized, varint_reads, varint_wri
 use Rattle.std.proofs.ByRecursion.{All-drop}
 use Rattle.std.proofs.lemmas.List.{append_assoc, drop_at, drop-drop, length-append, length-drop, length-take-le, take_all, take-append-drop}
 use Rattle.std.proofs.lemmas.Bool.{cases_lt, eq-eqb, eqb-false, eqb-true, ne_eqb}
-use Rattle.std.specs.List.{AllByRecursion as All}
+use Rattle.std.specs.List.{AllByRecursion}
 
 tag_number : (n : ℕ) (k : Bool) → tag n k / 2 ≡ n
 tag_number n true = omega arith
@@ -103,7 +103,7 @@ module _ (bytes : List ℕ) (t l : Varint) (small : t.value / 2 ≤ 2 ^ 62) (bel
         record { number = small; size = rw (k, n) below },
       )
 
-pub read_written : (bytes : List ℕ) → All (λ b. b < 256) bytes → IfOk (first_packet bytes) (IsWritten bytes)
+pub read_written : (bytes : List ℕ) → AllByRecursion (λ b. b < 256) bytes → IfOk (first_packet bytes) (IsWritten bytes)
 read_written bytes below = go (varint_of bytes) refl (varint_written bytes below)
   where
     go_length : (t : Varint) → varint_of bytes ≡ Ok t → t.value / 2 ≤ 2 ^ 62 → bytes ≡ varint t.value ++ drop t.size bytes

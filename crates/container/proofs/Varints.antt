@@ -10,7 +10,7 @@ use Rattle.std.proofs.lemmas.List.{at_drop_more}
 use Rattle.std.proofs.lemmas.Result.{IfOk-weaker}
 use Rattle.std.proofs.lemmas.Bool.{and_from, cases_lt, cond_both, eq-eqb, le-ltb, lt-ltb}
 use Rattle.std.proofs.lemmas.Bool.Decides.{nat_tests}
-use Rattle.std.specs.List.{AllByRecursion as All}
+use Rattle.std.specs.List.{AllByRecursion}
 
 -- ONE BYTE
 module _ (place value size b : ℕ) (bs : List ℕ) where
@@ -162,7 +162,7 @@ module _ (place value size b : ℕ) (bs : List ℕ) where
         short = inl (omega arith);
       }
 
-read_shortest : (bs : List ℕ) (place value size : ℕ) → 0 < place → All (λ b. b < 256) bs → IfOk (varint_from place value size bs) (Shortest place value size bs)
+read_shortest : (bs : List ℕ) (place value size : ℕ) → 0 < place → AllByRecursion (λ b. b < 256) bs → IfOk (varint_from place value size bs) (Shortest place value size bs)
 unfolding varint_from
 read_shortest [] place value size p below = tt
 read_shortest (b ∷ bs) place value size p below =
@@ -182,7 +182,7 @@ read_shortest (b ∷ bs) place value size p below =
       ]
     ]
 
-pub varint_written : (bs : List ℕ) → All (λ b. b < 256) bs
+pub varint_written : (bs : List ℕ) → AllByRecursion (λ b. b < 256) bs
     → IfOk (varint_of bs) (λ v. (v.size ≡ length (varint v.value)) × (bs ≡ varint v.value ++ drop v.size bs))
 varint_written bs below =
     IfOk-weaker (varint_of bs) (Shortest 1 0 0 bs) (λ v. (v.size ≡ length (varint v.value)) × (bs ≡ varint v.value ++ drop v.size bs))

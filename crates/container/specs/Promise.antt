@@ -6,7 +6,7 @@ use Rattle.container.specs.HeaderLine.{HeaderRead, header_line}
 use Rattle.container.specs.Reader.{ReaderState, ending, fed, next_packet, state_after}
 use Rattle.frame.specs.declared.rejection.Rejection.{Rejection}
 use Rattle.frame.specs.declared.rejection.Rejection.TheVariants.{PacketCut}
-use Rattle.std.specs.List.{AllByRecursion as All}
+use Rattle.std.specs.List.{AllByRecursion}
 use Rattle.text.specs.declared.forms.Header.{Header}
 
 -- A HEADER LINE IS READ BACK, whatever stands after it, and the first packet begins where it ends: no byte of its text is a
@@ -20,7 +20,7 @@ HeaderReadBack =
 -- each packet is read to just where it ends
 abbrev pub ReadBack : Type 0
 ReadBack =
-    (front : List ℕ) (ps : List Packet) → All InRange ps →
+    (front : List ℕ) (ps : List Packet) → AllByRecursion InRange ps →
     played (front ++ file_bytes ps) (length front) ≡ record { packets = ps; ending = Ok tt }
 
 -- a file of which the first so many bytes are kept: it plays the packets that are kept as a whole, and is then rejected at the
@@ -38,14 +38,14 @@ pub record CutPlay (position : ℕ) (ps : List Packet) (kept : ℕ) (result : Pl
 -- are missing would be read the same with them, and a packet does not end before its last byte
 abbrev pub CutAnywhere : Type 0
 CutAnywhere =
-    (front : List ℕ) (ps : List Packet) (kept : ℕ) → All InRange ps → kept ≤ length (file_bytes ps) →
+    (front : List ℕ) (ps : List Packet) (kept : ℕ) → AllByRecursion InRange ps → kept ≤ length (file_bytes ps) →
     CutPlay (length front) ps kept (played (front ++ take kept (file_bytes ps)) (length front))
 
 -- ONE FORM: a file that plays to its end is byte for byte what its packets are written as, so that no two such files play the
 -- same. Only the shortest form of a number is read.
 abbrev pub OneForm : Type 0
 OneForm =
-    (front bytes : List ℕ) → All (λ b. b < 256) bytes → (played (front ++ bytes) (length front)).ending ≡ Ok tt →
+    (front bytes : List ℕ) → AllByRecursion (λ b. b < 256) bytes → (played (front ++ bytes) (length front)).ending ≡ Ok tt →
     bytes ≡ file_bytes (played (front ++ bytes) (length front)).packets
 
 -- a reader's history: what it was fed, in whatever pieces, and which packets it has given, whenever they were asked for

@@ -7,7 +7,7 @@ use Rattle.pictures.specs.declared.forms.FrameRate.{FrameRate}
 use Rattle.std.proofs.ByRecursion.{All-append}
 use Rattle.std.proofs.lemmas.Bool.{and_parts, cases_eq, eq-eqb, eqb-false, leb-true, ne_eqb, not-true}
 use Rattle.std.specs.Char.{is_ascii_digit}
-use Rattle.std.specs.List.{AllByRecursion as All}
+use Rattle.std.specs.List.{AllByRecursion}
 use Rattle.std.specs.Str.{all_ascii_digits}
 
 -- A LINE IS CUT AT EVERY SPACE
@@ -51,13 +51,13 @@ line_same (c ∷ cs) =
     (cases_eq c 32)
 
 abbrev Spaceless : List ℕ → Type 0
-Spaceless w = All (λ c. c ≡ 32 → ⊥) w
+Spaceless w = AllByRecursion (λ c. c ≡ 32 → ⊥) w
 
-spaceless_before : (c : ℕ) (ws : List (List ℕ)) → (c ≡ 32 → ⊥) → All Spaceless ws → All Spaceless (put_before c ws)
+spaceless_before : (c : ℕ) (ws : List (List ℕ)) → (c ≡ 32 → ⊥) → AllByRecursion Spaceless ws → AllByRecursion Spaceless (put_before c ws)
 spaceless_before c [] d h = tt
 spaceless_before c (w ∷ ws) d h = ((d, h.0), h.1)
 
-pub line_spaceless : (line : List ℕ) → All Spaceless (cut line)
+pub line_spaceless : (line : List ℕ) → AllByRecursion Spaceless (cut line)
 unfolding cut
 line_spaceless [] = (tt, tt)
 line_spaceless (c ∷ cs) =
@@ -67,7 +67,7 @@ line_spaceless (c ∷ cs) =
     (cases_eq c 32)
 
 -- WORDS WITHOUT A SPACE ARE CUT AGAIN as they were
-cut_word : (w : List ℕ) (ws : List (List ℕ)) → Spaceless w → All Spaceless ws → cut (w ++ spaced ws) ≡ w ∷ ws
+cut_word : (w : List ℕ) (ws : List (List ℕ)) → Spaceless w → AllByRecursion Spaceless ws → cut (w ++ spaced ws) ≡ w ∷ ws
 unfolding cut
 cut_word [] [] h s = refl
 cut_word [] (v ∷ vs) h s = ap (λ l. [] ∷ l) (cut_word v vs s.0 s.1)
@@ -100,7 +100,7 @@ module _ (width height : ℕ) (rate : FrameRate) (w : width < 2 ^ 16) (h : heigh
   spaceless_rate : Spaceless (decimal rate.frames ++ (codes ":" ++ decimal rate.seconds))
   spaceless_rate = All-append _ _ _ (spaceless_number _ (omega arith)) (λ e. omega arith, spaceless_number _ (omega arith))
 
-  written_spaceless : All Spaceless (written_words width height rate)
+  written_spaceless : AllByRecursion Spaceless (written_words width height rate)
   written_spaceless = (
     spaceless_by (codes "YUV4MPEG2") refl,
     (

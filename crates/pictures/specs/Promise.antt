@@ -10,7 +10,7 @@ use Rattle.pictures.specs.declared.error.Fault.TheVariants.{BadMagic, BadMaxValu
 use Rattle.pictures.specs.declared.forms.Form.TheVariants.{Pgm, Text, Y4m}
 use Rattle.pictures.specs.declared.forms.Layout.TheVariants.{Frames, Pictures}
 use Rattle.pictures.specs.declared.forms.FrameRate.{FrameRate}
-use Rattle.std.specs.List.{AllByRecursion as All}
+use Rattle.std.specs.List.{AllByRecursion}
 
 -- THE HEADER THAT IS WRITTEN IS READ BACK as the same width and height with no chroma, since its words are those that it was
 -- written from, and the digits of a number mean that number.
@@ -34,7 +34,7 @@ PlainPictureLocated = (width height : ℕ) (pixels more : List ℕ) → 0 < widt
 -- A LINE IS ITS WORDS WITH A SPACE BETWEEN EACH TWO, and no word has a space, since it is cut at every one.
 pub record CutAtSpaces : Type 0 where
   pub same : (line : List ℕ) → line_of (cut line) ≡ line
-  pub no_space : (line : List ℕ) → All (All (λ c. c ≢ 32)) (cut line)
+  pub no_space : (line : List ℕ) → AllByRecursion (AllByRecursion (λ c. c ≢ 32)) (cut line)
 
 -- A PADDED SIZE IS THE LEAST MULTIPLE OF FOUR THAT IS NOT BELOW THE SIZE, since fewer than four are added.
 pub record PadsToBlocks : Type 0 where

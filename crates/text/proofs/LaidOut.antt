@@ -3,7 +3,7 @@ use Rattle.std.proofs.Common.{◌≡◌, ℕ, suc, ◌+◌, ◌-◌, ◌<◌, �
 use Rattle.std.proofs.ByRecursion.{All-push}
 use Rattle.std.proofs.lemmas.List.{length_push}
 use Rattle.std.proofs.lemmas.Bool.{cases_eq}
-use Rattle.std.specs.List.{AllByRecursion as All}
+use Rattle.std.specs.List.{AllByRecursion}
 use Rattle.text.proofs.Cutting.{at_byte, at_end, at_space}
 use Rattle.text.specs.Line.{Words, end, word, closed, position, words, words_from}
 use Rattle.text.specs.Promise.{Separate, laid_out}
@@ -71,12 +71,12 @@ pub line_same : (line : List ℕ) → laid_out 0 (words line) ≡ line
 line_same line = laid [] 0 line (omega arith)
 
 -- a word is closed before the words that begin after n
-separate_closed : (bytes : List ℕ) (n least : ℕ) (ws : Words) → length bytes ≤ n → All (λ c. c ≡ 32 → ⊥) bytes → least ≤ n - length bytes →
+separate_closed : (bytes : List ℕ) (n least : ℕ) (ws : Words) → length bytes ≤ n → AllByRecursion (λ c. c ≡ 32 → ⊥) bytes → least ≤ n - length bytes →
     ((l : ℕ) → l ≤ n + 1 → Separate l ws) → Separate least (closed bytes n ws)
 separate_closed [] n least ws h p l s = s least (omega arith)
 separate_closed (c ∷ cs) n least ws h p l s = (l, record { some = omega arith; no_space = p }, s _ (omega arith))
 
-separated : (bytes : List ℕ) (n : ℕ) (cs : List ℕ) (least : ℕ) → length bytes ≤ n → All (λ c. c ≡ 32 → ⊥) bytes → least ≤ n - length bytes → Separate least (words_from bytes n cs)
+separated : (bytes : List ℕ) (n : ℕ) (cs : List ℕ) (least : ℕ) → length bytes ≤ n → AllByRecursion (λ c. c ≡ 32 → ⊥) bytes → least ≤ n - length bytes → Separate least (words_from bytes n cs)
 separated bytes n [] least h p l = rw (at_end bytes n) (separate_closed bytes n least (end n) h p l (λ m k. k))
 separated bytes n (c ∷ cs) least h p l =
     ⊎_elim

@@ -4,7 +4,7 @@ use Rattle.std.proofs.lemmas.Fmt.{decimal_nonempty, digits_decimal, digits_value
 use Rattle.std.proofs.lemmas.Str.Parse.{IsNumeralModel, numerals_by_fold}
 use Rattle.std.proofs.lemmas.Bool.{and_left, and_parts, eqb-false, le-leb, leb-true, lt-ltb, ne_eqb, not-true}
 use Rattle.std.specs.Char.{is_ascii_digit}
-use Rattle.std.specs.List.{AllByRecursion as All}
+use Rattle.std.specs.List.{AllByRecursion}
 use Rattle.std.specs.Str.{all_ascii_digits, bytes_eq}
 use Rattle.text.proofs.Cutting.{at_byte, at_end, at_space}
 use Rattle.text.specs.declared.forms.Header.{Header}
@@ -22,7 +22,7 @@ abbrev from : ℕ → List (List ℕ) → Words
 from n [] = end n
 from n (w ∷ ws) = word n w (after (n + length w) ws)
 
-grown : (bytes : List ℕ) (n : ℕ) (w t : List ℕ) → All (λ c. c ≡ 32 → ⊥) w → words_from bytes n (w ++ t) ≡ words_from (bytes ++ w) (n + length w) t
+grown : (bytes : List ℕ) (n : ℕ) (w t : List ℕ) → AllByRecursion (λ c. c ≡ 32 → ⊥) w → words_from bytes n (w ++ t) ≡ words_from (bytes ++ w) (n + length w) t
 grown bytes n [] t h = rw (append-nil, add-zero)
 grown bytes n (c ∷ cs) t h =
     let longer : n + 1 + length cs ≡ n + suc (length cs) = omega arith in
@@ -34,13 +34,13 @@ closed_word : (w : List ℕ) (n : ℕ) (ws : Words) → 0 < length w → closed 
 closed_word [] n ws h = absurd (omega arith)
 closed_word (c ∷ cs) n ws h = let start : n + suc (length cs) - suc (length cs) ≡ n = omega arith in ap (λ m. word m (c ∷ cs) ws) start
 
-cut : (bytes : List ℕ) (n : ℕ) (ws : List (List ℕ)) → All Plain ws → words_from bytes n (spaced ws) ≡ closed bytes n (after n ws)
+cut : (bytes : List ℕ) (n : ℕ) (ws : List (List ℕ)) → AllByRecursion Plain ws → words_from bytes n (spaced ws) ≡ closed bytes n (after n ws)
 cut bytes n [] h = at_end bytes n
 cut bytes n (w ∷ ws) h =
     at_space bytes n 32 (w ++ spaced ws) refl
     ∙ ap (closed bytes n) (grown [] (n + 1) w (spaced ws) h.0.no_space ∙ cut w (n + 1 + length w) ws h.1 ∙ closed_word w (n + 1) _ h.0.some)
 
-pub words_line : (ws : List (List ℕ)) → All Plain ws → words (line_of ws) ≡ from 0 ws
+pub words_line : (ws : List (List ℕ)) → AllByRecursion Plain ws → words (line_of ws) ≡ from 0 ws
 words_line [] h = at_end [] 0
 words_line (w ∷ ws) h = grown [] 0 w (spaced ws) h.0.no_space ∙ cut w (0 + length w) ws h.1 ∙ closed_word w 0 _ h.0.some
 
@@ -48,7 +48,7 @@ words_line (w ∷ ws) h = grown [] 0 w (spaced ws) h.0.no_space ∙ cut w (0 + l
 own : IsNumeralModel (λ ds. all_ascii_digits ds ≡ true) (value_after 0)
 own = numerals_by_fold _ (search rules) value_after (search rules)
 
-no_spaces : (w : List ℕ) → all_ascii_digits w ≡ true → All (λ c. c ≡ 32 → ⊥) w
+no_spaces : (w : List ℕ) → all_ascii_digits w ≡ true → AllByRecursion (λ c. c ≡ 32 → ⊥) w
 no_spaces [] h = tt
 no_spaces (c ∷ cs) h =
     let parts = and_parts (is_ascii_digit c) (all_ascii_digits cs) h in
@@ -65,7 +65,7 @@ module _ (n : ℕ) (h : n < 2 ^ 64) where
       let same : value (decimal n) ≡ n = digits_value-decimal own n h in
       rw (lt-ltb 0 (length (decimal n)) (decimal_nonempty n h), digits_decimal own n h, same, le-leb n limit l)
 
-plain_numbers : (ns : List ℕ) → All (λ n. n < 256) ns → All Plain (map decimal ns)
+plain_numbers : (ns : List ℕ) → AllByRecursion (λ n. n < 256) ns → AllByRecursion Plain (map decimal ns)
 plain_numbers [] h = tt
 plain_numbers (n ∷ ns) h = (plain_number n (omega (arith, h.0)), plain_numbers ns h.1)
 
@@ -74,7 +74,7 @@ abbrev spaceless : List ℕ → Bool
 spaceless [] = true
 spaceless (c ∷ cs) = not (eqb c 32) && spaceless cs
 
-no_spaces_by : (w : List ℕ) → spaceless w ≡ true → All (λ c. c ≡ 32 → ⊥) w
+no_spaces_by : (w : List ℕ) → spaceless w ≡ true → AllByRecursion (λ c. c ≡ 32 → ⊥) w
 no_spaces_by [] h = tt
 no_spaces_by (c ∷ cs) h =
     let parts = and_parts (not (eqb c 32)) (spaceless cs) h in
@@ -94,48 +94,48 @@ not_key (c ∷ cs) h =
 -- THE FORMS
 pub header_back : (h : Header) → h.across < 2 ^ 64 → h.down < 2 ^ 64 → h.step < 2 ^ 64 → header_of (header_text h) ≡ Ok h
 header_back h a d s =
-    let plain : All Plain (header_words h) =
+    let plain : AllByRecursion Plain (header_words h) =
     (plain_keyword _ _ refl, (plain_number _ a, (plain_number _ d, (plain_keyword _ _ refl, (plain_number _ s, tt))))) in
     rw (words_line (header_words h) plain, number_decimal h.across a (2 ^ 64 - 1) (omega arith), number_decimal h.down d (2 ^ 64 - 1) (omega arith), number_decimal h.step s (2 ^ 64 - 1) (omega arith))
 
 pub worst_back : (distance : ℕ) → distance < 256 → worst_of (worst_text distance) ≡ Ok distance
 worst_back n h =
     let small : n < 2 ^ 64 = omega arith in
-    let plain : All Plain (codes "worst" ∷ (decimal n ∷ [])) = (plain_keyword _ _ refl, (plain_number n small, tt)) in
+    let plain : AllByRecursion Plain (codes "worst" ∷ (decimal n ∷ [])) = (plain_keyword _ _ refl, (plain_number n small, tt)) in
     rw (words_line _ plain, number_decimal n small 255 (omega arith))
 
-pixels_after : (n : ℕ) (ps : List ℕ) → All (λ p. p < 256) ps → pixels_of (length ps) (after n (map decimal ps)) ≡ Ok ps
+pixels_after : (n : ℕ) (ps : List ℕ) → AllByRecursion (λ p. p < 256) ps → pixels_of (length ps) (after n (map decimal ps)) ≡ Ok ps
 unfolding pixels_of
 pixels_after n [] h = refl
 pixels_after n (p ∷ ps) h = rw (number_decimal p (omega (arith, h.0)) 255 (omega (arith, h.0)), pixels_after (n + 1 + length (decimal p)) ps h.1)
 
-pixels_from : (n : ℕ) (ps : List ℕ) → All (λ p. p < 256) ps → pixels_of (length ps) (from n (map decimal ps)) ≡ Ok ps
+pixels_from : (n : ℕ) (ps : List ℕ) → AllByRecursion (λ p. p < 256) ps → pixels_of (length ps) (from n (map decimal ps)) ≡ Ok ps
 unfolding pixels_of
 pixels_from n [] h = refl
 pixels_from n (p ∷ ps) h = rw (number_decimal p (omega (arith, h.0)) 255 (omega (arith, h.0)), pixels_after (n + length (decimal p)) ps h.1)
 
-pub row_back : (ps : List ℕ) → All (λ p. p < 256) ps → row_of (length ps) (row_text ps) ≡ Ok ps
+pub row_back : (ps : List ℕ) → AllByRecursion (λ p. p < 256) ps → row_of (length ps) (row_text ps) ≡ Ok ps
 row_back ps h = ap (pixels_of (length ps)) (words_line (map decimal ps) (plain_numbers ps h)) ∙ pixels_from 0 ps h
 
-bytes_after : (n : ℕ) (bs : List ℕ) → All (λ b. b < 256) bs → bytes_to_end (after n (map decimal bs)) ≡ Ok bs
+bytes_after : (n : ℕ) (bs : List ℕ) → AllByRecursion (λ b. b < 256) bs → bytes_to_end (after n (map decimal bs)) ≡ Ok bs
 unfolding bytes_to_end
 bytes_after n [] h = refl
 bytes_after n (b ∷ bs) h = rw (number_decimal b (omega (arith, h.0)) 255 (omega (arith, h.0)), bytes_after (n + 1 + length (decimal b)) bs h.1)
 
-no_key_after : (n : ℕ) (bs : List ℕ) → All (λ b. b < 256) bs → next_is (codes "key") (after n (map decimal bs)) ≡ false
+no_key_after : (n : ℕ) (bs : List ℕ) → AllByRecursion (λ b. b < 256) bs → next_is (codes "key") (after n (map decimal bs)) ≡ false
 no_key_after n [] h = refl
 no_key_after n (b ∷ bs) h = not_key (decimal b) (digits_decimal own b (omega (arith, h.0)))
 
-plain_packet : (number : ℕ) (key : Bool) (bs : List ℕ) → number ≤ 2 ^ 62 → All (λ b. b < 256) bs → All Plain (packet_words (record { number = number; key = key; bytes = bs }))
+plain_packet : (number : ℕ) (key : Bool) (bs : List ℕ) → number ≤ 2 ^ 62 → AllByRecursion (λ b. b < 256) bs → AllByRecursion Plain (packet_words (record { number = number; key = key; bytes = bs }))
 plain_packet n true bs l h = (plain_number n (omega arith), (plain_keyword _ _ refl, plain_numbers bs h))
 plain_packet n false bs l h = (plain_number n (omega arith), plain_numbers bs h)
 
-by_key : (number : ℕ) (key : Bool) (bs : List ℕ) → number ≤ 2 ^ 62 → All (λ b. b < 256) bs →
+by_key : (number : ℕ) (key : Bool) (bs : List ℕ) → number ≤ 2 ^ 62 → AllByRecursion (λ b. b < 256) bs →
     packet_of (packet_text (record { number = number; key = key; bytes = bs })) ≡ Ok (record { number = number; key = key; bytes = bs })
 by_key n true bs l h =
     rw (words_line _ (plain_packet n true bs l h), number_decimal n (omega arith) (2 ^ 62) l, bytes_after _ bs h)
 by_key n false bs l h =
     rw (words_line _ (plain_packet n false bs l h), number_decimal n (omega arith) (2 ^ 62) l, no_key_after _ bs h, bytes_after _ bs h)
 
-pub packet_back : (p : PacketFields) → p.number ≤ 2 ^ 62 → All (λ b. b < 256) p.bytes → packet_of (packet_text p) ≡ Ok p
+pub packet_back : (p : PacketFields) → p.number ≤ 2 ^ 62 → AllByRecursion (λ b. b < 256) p.bytes → packet_of (packet_text p) ≡ Ok p
 packet_back p l h = by_key p.number p.key p.bytes l h

@@ -1,7 +1,7 @@
 -- What the text forms promise. Each is a statement, and a function's contract asks for its proof.
 use Rattle.std.specs.Prelude.{◌≡◌, ℕ, ◌+◌, ◌-◌, ◌^◌, ◌<◌, ◌≤◌, true, false, List, [], ◌∷◌, ◌++◌, length, replicate, Some, None, Ok, Err, codes, ◌≢◌}
 use Rattle.frame.specs.declared.rejection.Rejection.TheVariants.{BadText}
-use Rattle.std.specs.List.{AllByRecursion as All}
+use Rattle.std.specs.List.{AllByRecursion}
 use Rattle.text.specs.declared.forms.Header.{Header}
 use Rattle.text.specs.Line.{Words, end, word, words}
 use Rattle.text.specs.Text.{PacketFields, header_of, header_text, packet_of, packet_text, row_of, row_text, sure_text, unsure_text, worst_of, worst_text}
@@ -10,8 +10,8 @@ use Rattle.text.specs.Text.{PacketFields, header_of, header_text, packet_of, pac
 -- and the digits of a number mean that number.
 pub record ReadsBack : Type 0 where
   pub header : (h : Header) → h.across < 2 ^ 64 → h.down < 2 ^ 64 → h.step < 2 ^ 64 → header_of (header_text h) ≡ Ok h
-  pub row : (pixels : List ℕ) → All (λ p. p < 256) pixels → row_of (length pixels) (row_text pixels) ≡ Ok pixels
-  pub packet : (p : PacketFields) → p.number ≤ 2 ^ 62 → All (λ b. b < 256) p.bytes → packet_of (packet_text p) ≡ Ok p
+  pub row : (pixels : List ℕ) → AllByRecursion (λ p. p < 256) pixels → row_of (length pixels) (row_text pixels) ≡ Ok pixels
+  pub packet : (p : PacketFields) → p.number ≤ 2 ^ 62 → AllByRecursion (λ b. b < 256) p.bytes → packet_of (packet_text p) ≡ Ok p
   pub worst : (distance : ℕ) → distance < 256 → worst_of (worst_text distance) ≡ Ok distance
 
 -- A LINE IS ITS WORDS, EACH AT ITS OFFSET, AND SPACES BETWEEN THEM, since every byte is a space or belongs to a word.
@@ -23,7 +23,7 @@ laid_out offset (word n bytes ws) = replicate (n - offset) 32 ++ (bytes ++ laid_
 -- one byte or more, and no space
 pub record Plain (bytes : List ℕ) : Type 0 where
   pub some : 0 < length bytes
-  pub no_space : All (λ c. c ≢ 32) bytes
+  pub no_space : AllByRecursion (λ c. c ≢ 32) bytes
 
 -- each word begins at the least offset or after it, and a space or more stands before the next
 abbrev pub Separate : (least : ℕ) → Words → Type 0
