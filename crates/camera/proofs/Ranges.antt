@@ -3,7 +3,7 @@ use Rattle.std.proofs.Common.{◌≡◌, ℕ, ◌*◌, ◌^◌, ◌<◌, ◌≤�
 use Rattle.std.proofs.lemmas.List.{length-take-le}
 use Rattle.std.proofs.lemmas.Bool.{leb-true}
 use Rattle.frame.specs.Frame.{Format, Frame}
-use Rattle.frame.specs.Rejection.{few, format_rejection, number_rejection, or_else, picture_rejection, planes_rejection, show_rejection, unless}
+use Rattle.frame.specs.Rejection.{few, format_rejection, or_else, picture_rejection, planes_rejection, show_rejection, unless}
 use Rattle.frame.specs.Show.{FormatSays, ShowSays}
 use Rattle.frame.specs.declared.rejection.Rejection.{Rejection}
 use Rattle.frame.specs.declared.rejection.Rejection.TheVariants.{BlockCount, StepRange, PictureLength, SourceLength, BadText}
@@ -12,7 +12,7 @@ use Rattle.frame.specs.declared.rejection.Plane.TheVariants.{Reference, Output}
 use Rattle.frame.specs.declared.show_result.ShowResult.TheVariants as shown
 use Rattle.frame.proofs.Rejecting.{not_made}
 use Rattle.encoder.specs.Code.{CodeSays, code_rejection, pictures_rejection}
-use Rattle.stream.specs.Receiver.{Packet, ReceiveSays, receive_rejection}
+use Rattle.stream.specs.Receiver.{Packet, ReceiveSays, number_rejection, receive_rejection}
 use Rattle.stream.specs.declared.receiver.Receiver.{Receiver}
 use Rattle.camera.specs.Camera.{code_answer, format_in, packet_rejection, receive_answer}
 use Rattle.camera.specs.Packed.{Fitting}

@@ -1,5 +1,5 @@
 -- What is rejected, in the order of the checks, with its code and its position. Assumes nothing: these are definitions.
-use Rattle.std.specs.Prelude.{ℕ, ◌*◌, ◌^◌, Bool, true, false, ◌&&◌, List, length, Some, None, Option, ◌==◌, nat_le}
+use Rattle.std.specs.Prelude.{ℕ, ◌*◌, Bool, true, false, ◌&&◌, List, length, Some, None, Option, ◌==◌, nat_le}
 use Rattle.frame.specs.declared.rejection.Rejection.{Rejection}
 use Rattle.frame.specs.declared.rejection.Rejection.TheVariants.{BlockCount, StepRange, PictureLength, SourceLength, BufferTooShort, PacketCut, BadText}
 use Rattle.frame.specs.declared.rejection.Extent.{Extent}
@@ -68,7 +68,3 @@ picture_rejection pixels picture = unless (length picture == pixels) (PictureLen
 unfoldable pub show_rejection : (across down step : ℕ) → (reference output : List ℕ) → Option Rejection
 show_rejection across down step reference output =
     or_else (format_rejection across down step) (planes_rejection (16 * (across * down)) reference output)
-
--- a sequence number is at most 2^62
-abbrev pub number_rejection : (number : ℕ) → Option Rejection
-number_rejection number = unless (nat_le number (2 ^ 62)) (BadText 0)
