@@ -1,18 +1,18 @@
 -- A frame that was encoded: its bytes are read back as the blocks that were chosen.
-use Rattle.std.proofs.Common.{◌≡◌, ℕ, ◌+◌, ◌-◌, ◌*◌, ◌/◌, ◌%◌, ◌<◌, ◌≤◌, Bool, true, List, length, sym, refl, ap, ◌∙◌, subst, mul_comm, arith}
+use Rattle.std.proofs.Common.{◌≡◌, ℕ, ◌*◌, ◌/◌, ◌%◌, ◌<◌, ◌≤◌, Bool, List, length, sym, ap, ◌∙◌, subst, mul_comm, arith}
 use Rattle.bits.specs.Bits.{bits_of}
 use Rattle.range_coder.specs.Code.{Finished}
-use Rattle.range_coder.specs.Decisions.{Decision, Gives, ReaderState, after, start_reader}
+use Rattle.range_coder.specs.Decisions.{Decision, ReaderState, after, start_reader}
 use Rattle.range_coder.specs.declared.writer.Writer.{Writer}
 use Rattle.block.specs.Picture.{picture_in}
 use Rattle.block.specs.Prediction.{predictable}
 use Rattle.block.specs.Transform.{distance}
 use Rattle.block.specs.declared.block.Block.{Block}
-use Rattle.frame.specs.Frame.{Format, Holds, block_at, block_count, past, plane_size, shows, valid}
+use Rattle.frame.specs.Frame.{Format, block_at, block_count, past, plane_size, shows, valid}
 use Rattle.frame.specs.Saying.{frame_decisions}
 use Rattle.frame.proofs.Blocks.{every_from, picture_of_same, pixel_block_below}
 use Rattle.encoder.specs.Code.{Coded, worst_case}
-use Rattle.encoder.specs.Progress.{FrameEncoded, Progress, picture_chosen}
+use Rattle.encoder.specs.Progress.{FrameEncoded, Progress}
 use Rattle.encoder.proofs.Rows.{counted}
 use Rattle.frame.proofs.ReadBack.{frame_read_back}
 

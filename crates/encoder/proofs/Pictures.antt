@@ -1,5 +1,5 @@
 -- Pictures that are not rejected have the length that they should.
-use Rattle.std.proofs.Common.{◌≡◌, ℕ, eqb, List, length, Some, None, Option, sym, refl, ◌∙◌, arith}
+use Rattle.std.proofs.Common.{◌≡◌, ℕ, eqb, List, length, Some, None, Option, refl, arith}
 use Rattle.frame.specs.Rejection.{or_else, planes_rejection, unless}
 use Rattle.frame.specs.declared.rejection.Rejection.{Rejection}
 use Rattle.frame.specs.declared.rejection.Rejection.TheVariants.{SourceLength}

@@ -1,5 +1,5 @@
 -- One block more: it is chosen, written and drawn, and those before it stay as they were.
-use Rattle.std.proofs.Common.{◌≡◌, ℕ, suc, ◌+◌, ◌*◌, ◌/◌, ◌%◌, ◌<◌, ◌≤◌, Bool, true, false, ◌⊎◌, List, ◌++◌, get_or, sym, refl, ap, ◌∙◌, subst, inl, inr, add-one, arith}
+use Rattle.std.proofs.Common.{◌≡◌, ℕ, ◌+◌, ◌*◌, ◌/◌, ◌%◌, ◌<◌, ◌≤◌, Bool, true, ◌⊎◌, List, ◌++◌, sym, ap, ◌∙◌, subst, inl, inr, add-one, arith}
 use Rattle.std.proofs.lemmas.Nat.{mod-mul-add, div-mul-add}
 use Rattle.std.proofs.lemmas.Bool.{cases_lt}
 use Rattle.range_coder.specs.Code.{HasWritten, writer_of}
@@ -13,7 +13,7 @@ use Rattle.block.specs.Transform.{distance, pixel_in, reconstructed}
 use Rattle.block.specs.declared.block.Block.{Block}
 use Rattle.frame.specs.Decoding.{BlockPut}
 use Rattle.frame.specs.Frame.{Format, block_count, block_of_pixel, block_predictable, picture_of, plane_size}
-use Rattle.frame.specs.Saying.{SayableBlocks, frame_decisions}
+use Rattle.frame.specs.Saying.{frame_decisions}
 use Rattle.frame.proofs.Blocks.{frame_decisions_same, last_or_before, pixel_same}
 use Rattle.frame.proofs.Placed.{place_below, predictable_is, pixel_is, drawn}
 use Rattle.encoder.specs.Progress.{BlockEncoded, Extends, Progress}

@@ -1,5 +1,5 @@
 -- Blocks one after the other make a row, and rows one after the other a frame.
-use Rattle.std.proofs.Common.{◌≡◌, ℕ, ◌+◌, ◌*◌, ◌/◌, ◌<◌, ◌≤◌, Bool, true, false, cond, eqb, List, [], length, get_or, sym, refl, ap, ◌∙◌, arith}
+use Rattle.std.proofs.Common.{◌≡◌, ℕ, ◌+◌, ◌*◌, ◌/◌, ◌<◌, ◌≤◌, Bool, true, false, cond, eqb, List, [], length, get_or, refl, ap, ◌∙◌, arith}
 use borrow.Rule.Slice.PartMut.{put_mid}
 use Rattle.std.proofs.lemmas.Nat.{mul-add-lt}
 use borrow.Author.Tests.{eqb_apart}
@@ -9,7 +9,6 @@ use Rattle.range_coder.specs.declared.writer.Writer.{Writer}
 use Rattle.block.specs.Picture.{picture_in}
 use Rattle.block.specs.declared.block.Block.{Block}
 use Rattle.block.specs.declared.block.Prediction.TheVariants.{Flat}
-use Rattle.frame.specs.Decoding.{Drawn, RowDrawn}
 use Rattle.frame.specs.Frame.{Format, block_of_pixel}
 use Rattle.frame.specs.Saying.{frame_decisions}
 use Rattle.frame.proofs.Bands.{drawn_more}

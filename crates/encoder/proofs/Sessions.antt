@@ -3,7 +3,7 @@ use Rattle.std.proofs.Common.{◌≡◌, ℕ, zero, suc, ◌+◌, ◌*◌, ◌/�
 use Rattle.std.proofs.lemmas.Simd.{length-replicate}
 use Rattle.std.proofs.lemmas.Bool.{eq-eqb, le-leb, lt-leb, or_right}
 use Rattle.block.specs.Picture.{Picture, black, picture_in}
-use Rattle.frame.specs.Frame.{Format, Frame, Holds, block_count, shows, valid}
+use Rattle.frame.specs.Frame.{Format, Frame, Holds, block_count, shows}
 use Rattle.frame.specs.Rejection.{planes_rejection}
 use Rattle.frame.specs.Video.{Near, Video, picture_after}
 use Rattle.frame.specs.declared.rejection.Rejection.{Rejection}

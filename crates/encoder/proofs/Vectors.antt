@@ -1,5 +1,5 @@
 -- A vector that stays within the edges can be said.
-use Rattle.std.proofs.Common.{◌≡◌, ℕ, ◌<◌, ◌≤◌, Bool, true, false, ◌&&◌, ℤ, pos, negsuc, nat_abs, refl, arith}
+use Rattle.std.proofs.Common.{◌≡◌, ℕ, ◌<◌, ◌≤◌, true, false, ℤ, pos, negsuc, nat_abs, refl, arith}
 use Rattle.std.proofs.lemmas.Bool.{and_parts, leb-true}
 use Rattle.block.specs.Prediction.{predictable, stays_within}
 use Rattle.block.specs.Syntax.{SayablePrediction}

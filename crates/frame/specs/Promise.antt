@@ -1,5 +1,5 @@
 -- What frames promise. Each is a statement, and a function's contract asks for its proof.
-use Rattle.std.specs.Prelude.{◌≡◌, ℕ, ◌+◌, ◌*◌, ◌<◌, ◌≤◌, Bool, true, false, List, [], ◌∷◌, ◌++◌, replicate, ℤ, pos}
+use Rattle.std.specs.Prelude.{◌≡◌, ℕ, ◌+◌, ◌*◌, ◌<◌, ◌≤◌, Bool, true, false, List, [], ◌∷◌, ◌++◌, replicate, pos}
 use Rattle.bits.specs.Bits.{Bits, bits_of, bits_from}
 use Rattle.block.specs.Picture.{Picture}
 use Rattle.block.specs.Syntax.{no_levels}
@@ -8,7 +8,6 @@ use Rattle.block.specs.declared.block.Prediction.{Prediction}
 use Rattle.block.specs.declared.block.Prediction.TheVariants.{Flat, Motion}
 use Rattle.frame.specs.Frame.{Format, Frame, frame_block, shows, valid}
 use Rattle.frame.specs.Saying.{SayableBlocks}
-use Rattle.frame.specs.declared.header.FrameHeader.{FrameHeader}
 
 -- WHATEVER BLOCKS AN ENCODER CHOOSES CAN BE SAID IN BITS: the bottom of the range that their decisions narrow to.
 -- The bits have an end, and 2192 for each block and eight are enough.

@@ -1,5 +1,5 @@
 -- What an encoder made and a screen received, put together.
-use Rattle.std.proofs.Common.{◌≡◌, ◌*◌, subst}
+use Rattle.std.proofs.Common.{◌*◌, subst}
 use Rattle.block.specs.Picture.{picture_in}
 use Rattle.frame.specs.Frame.{Format}
 use Rattle.frame.specs.Video.{Follows}

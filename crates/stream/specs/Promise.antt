@@ -1,7 +1,7 @@
 -- What a receiver promises, of every video and every sequence of packets. Each is a statement, and a function's contract asks for its proof.
 use Rattle.std.specs.Prelude.{◌≡◌, ℕ, suc, ◌/◌, ◌<◌, ◌≤◌, true, false, List, [], ◌∷◌}
 use Rattle.block.specs.Picture.{Picture}
-use Rattle.frame.specs.Frame.{Format, shows, valid}
+use Rattle.frame.specs.Frame.{Format, valid}
 use Rattle.frame.specs.Video.{Video, Near, Follows, picture_after}
 use Rattle.stream.specs.Receiver.{ReceiverState, Packet, received, after_packets}
 

@@ -1,4 +1,4 @@
-use Rattle.std.proofs.Common.{◌≡◌, Ok, Err, arith}
+use Rattle.std.proofs.Common.{Ok, Err, arith}
 use Rattle.camera.proofs.Ranges.{code_fits}
 use Rattle.camera.proofs.exports.zukhtavo_code.Goals as goal
 

@@ -1,4 +1,4 @@
-use Rattle.std.proofs.Common.{◌≡◌, ◌*◌, refl, subst}
+use Rattle.std.proofs.Common.{◌*◌, refl, subst}
 use Rattle.frame.specs.Frame.{Format, block_count}
 use Rattle.frame.proofs.Rejecting.{made, not_made}
 use Rattle.encoder.specs.Code.{CodeSays, code_rejection, pictures_rejection}

@@ -1,4 +1,4 @@
-use Rattle.std.proofs.Common.{◌≡◌, ◌*◌, refl}
+use Rattle.std.proofs.Common.{◌*◌, refl}
 use Rattle.frame.specs.Frame.{block_count}
 use Rattle.frame.specs.Show.{format_of}
 use Rattle.frame.proofs.Rejecting.{failed, passed}

@@ -1,6 +1,5 @@
-use Rattle.std.proofs.Common.{◌≡◌, ℕ, ◌-◌, ◌*◌, List, ◌++◌, length, take, sym, refl, ap, ◌∙◌, subst, arith, length-drop, length-take}
+use Rattle.std.proofs.Common.{◌≡◌, ℕ, ◌-◌, List, ◌++◌, length, take, sym, refl, ap, ◌∙◌, subst, arith, length-drop, length-take}
 use Rattle.std.proofs.lemmas.List.{take_at}
-use Rattle.frame.specs.Frame.{block_count}
 use Rattle.frame.specs.Show.{format_of}
 use Rattle.encoder.specs.Progress.{FrameEncoded}
 use Rattle.encoder.proofs.coding.code_with.Goals as goal

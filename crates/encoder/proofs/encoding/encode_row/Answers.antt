@@ -1,4 +1,4 @@
-use Rattle.std.proofs.Common.{◌≡◌, ℕ, ◌+◌, ◌*◌, sym, subst, arith}
+use Rattle.std.proofs.Common.{◌≡◌, subst, arith}
 use Rattle.frame.specs.Show.{format_of}
 use Rattle.encoder.specs.Progress.{RowEncoded}
 use Rattle.encoder.proofs.Rows.{row_none, row_more}

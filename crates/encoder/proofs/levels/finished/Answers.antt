@@ -1,4 +1,4 @@
-use Rattle.std.proofs.Common.{ℕ, ◌≤◌, ℤ, pos, nat_abs, sym, subst, arith}
+use Rattle.std.proofs.Common.{◌≤◌, ℤ, pos, nat_abs, sym, subst, arith}
 use Rattle.std.proofs.lemmas.List.{get_or-replicate}
 use Rattle.encoder.proofs.levels.finished.Goals as goal
 

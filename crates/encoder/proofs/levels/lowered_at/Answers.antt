@@ -1,4 +1,4 @@
-use Rattle.std.proofs.Common.{◌≡◌, List, ℤ, pos, nat_abs, sym, subst, arith}
+use Rattle.std.proofs.Common.{List, ℤ, pos, sym, subst, arith}
 use Rattle.std.proofs.lemmas.Int.{ints}
 use Rattle.symbols.specs.Promise.{Sayable}
 use Rattle.encoder.proofs.Lowering.{sayable_set}

@@ -1,4 +1,4 @@
-use Rattle.std.proofs.Common.{◌≡◌, ℕ, ◌<◌, Bool, true, false, sym, refl, ap, ◌∙◌, arith, w8, w16, Fits, rules}
+use Rattle.std.proofs.Common.{◌≡◌, true, sym, ◌∙◌, w8, w16, Fits, rules}
 use Rattle.block.specs.Picture.{picture_in}
 use Rattle.block.specs.Prediction.{predictable, predicted}
 use Rattle.block.specs.declared.block.Prediction.TheVariants.{Motion}
