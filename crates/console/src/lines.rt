@@ -30,6 +30,11 @@ fn line_end(bytes: &[u8], start: usize) -> usize
     bytes.len()
 }
 
+// A line as it is where lines end with a carriage return and a line feed.
+fn without_return(line: &str) -> &str {
+    line.strip_suffix('\r').unwrap_or(line)
+}
+
 impl Source {
     // Reads until a line is whole, the input ends or so many bytes are read, and says where the line ends.
     pub fn read_to_line_end(&mut self, limit: usize) -> Result<usize, Refusal>
@@ -55,7 +60,9 @@ impl Source {
         }
         let position = self.position();
         let front = self.front();
+        let ended = end < front.len();
         let text = match str::from_utf8(&front[0..end.min(front.len())]) {
+            Ok(line) if ended => String::from_str(heap, without_return(line))?,
             Ok(line) => String::from_str(heap, line)?,
             Err(error) => return Err(Refusal::Rejected(text::placed(
                 Rejection::BadText(error.valid_up_to() as u64),

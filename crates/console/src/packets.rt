@@ -9,7 +9,7 @@ use std::alloc::Global;
 use text::Header;
 
 // No header line that says a format is longer, unless it has needless zeros or spaces.
-const LONGEST_HEADER: usize = 4096;
+const LONGEST_HEADER: usize = 16384;
 
 #[derive(Drop)]
 pub struct PacketSource {

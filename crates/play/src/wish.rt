@@ -60,8 +60,6 @@ impl Wish {
             self.rate = Some(parse_rate(heap, arguments.value("--rate")?.as_str())?);
         } else if name.starts_with("--") {
             return Err(console::unknown_option(heap, "play", name)?);
-        } else if self.file.is_some() {
-            return Err("there is more than one file to play; see play --help".into());
         } else {
             self.file = Some(word);
         }

@@ -35,7 +35,7 @@ fn pass_text(rt: &HostRuntime, source: &mut Source, air: &mut Air) -> Result<(),
             break;
         };
         let line = line.text.as_str();
-        if !text::is_blank_line(line) && !text::is_worst_line(line) {
+        if !text::is_worst_line(line) {
             air.pass(rt, line_bytes(heap, line)?)?;
         }
     }

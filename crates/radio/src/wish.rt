@@ -20,14 +20,14 @@ fn parse_number(heap: Global, word: &str) -> Result<u64, Refusal> {
 }
 
 impl Wish {
-    // The number at that place among the numbers.
-    fn set(&mut self, place: u64, number: u64) -> Result<(), Refusal> {
+    // The number at that place among the words. What comes after the four of them is passed over.
+    fn set(&mut self, heap: Global, place: u64, word: &str) -> Result<(), Refusal> {
         match place {
-            0 => self.weather.seed = number,
-            1 => self.weather.lost = number,
-            2 => self.weather.doubled = number,
-            3 => self.weather.late = number,
-            _ => return Err("there are too many numbers; see radio --help".into()),
+            0 => self.weather.seed = parse_number(heap, word)?,
+            1 => self.weather.lost = parse_number(heap, word)?,
+            2 => self.weather.doubled = parse_number(heap, word)?,
+            3 => self.weather.late = parse_number(heap, word)?,
+            _ => {}
         }
         Ok(())
     }
@@ -54,7 +54,7 @@ pub fn read(rt: &HostRuntime) -> Result<Wish, Refusal> {
         } else if word.starts_with("--") {
             return Err(console::unknown_option(heap, "radio", word)?);
         } else {
-            wish.set(place, parse_number(heap, word)?)?;
+            wish.set(heap, place, word)?;
             place = place.saturating_add(1);
         }
     }
