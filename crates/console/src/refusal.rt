@@ -1,4 +1,6 @@
 // Why a program ends with status 1.
+ghost use Rattle.std.specs.Prelude.{◌≡◌};
+
 use frame::Rejection;
 use pictures::PictureError;
 use std::{fmt, io};
@@ -33,7 +35,9 @@ impl fmt::Display for Refusal {
 }
 
 // Says on standard error what a program refuses, and hands it on.
-pub fn report(rt: &HostRuntime, program: &str, res: Result<(), Refusal>) -> Result<(), Refusal> {
+pub fn report(rt: &HostRuntime, program: &str, res: Result<(), Refusal>) -> Result<(), Refusal>
+    ensures { result ≡ res }
+{
     if let Err(refusal) = &res {
         let _ = eprintln!(rt; "{program}: {refusal}");
     }
