@@ -2,7 +2,7 @@
 use Rattle.std.proofs.Common.{◌≡◌, ℕ, ◌*◌, ◌^◌, ◌<◌, ◌≤◌, Bool, true, false, cond, ◌&&◌, eqb, leb, List, length, Some, None, Ok, Err, Option, Result, sym, refl, subst, inl, inr, arith}
 use Rattle.std.proofs.lemmas.List.{length-take-le}
 use Rattle.std.proofs.lemmas.Bool.{leb-true}
-use Rattle.frame.specs.Frame.{Format, Frame}
+use Rattle.frame.specs.Frame.{Format, Frame, Packet}
 use Rattle.frame.specs.Rejection.{few, format_rejection, or_else, picture_rejection, planes_rejection, show_rejection, unless}
 use Rattle.frame.specs.Show.{FormatSays, ShowSays}
 use Rattle.frame.specs.declared.rejection.Rejection.{Rejection}
@@ -12,7 +12,7 @@ use Rattle.frame.specs.declared.rejection.Plane.TheVariants.{Reference, Output}
 use Rattle.frame.specs.declared.show_result.ShowResult.TheVariants as shown
 use Rattle.frame.proofs.Rejecting.{not_made}
 use Rattle.encoder.specs.Code.{CodeSays, code_rejection, pictures_rejection}
-use Rattle.stream.specs.Receiver.{Packet, ReceiveSays, number_rejection, receive_rejection}
+use Rattle.stream.specs.Receiver.{ReceiveSays, number_rejection, receive_rejection}
 use Rattle.stream.specs.declared.receiver.Receiver.{Receiver}
 use Rattle.camera.specs.Camera.{code_answer, format_in, packet_rejection, receive_answer}
 use Rattle.camera.specs.Packed.{Fitting}

@@ -1,13 +1,13 @@
 -- What the functions for C answer, and what they leave: what the parts beneath do, with the answer packed. Assumes nothing: these are definitions.
 use Rattle.std.specs.Prelude.{◌≡◌, ℕ, ◌*◌, Bool, cond, List, Some, None, Ok, Err, Option, Result, nat_lt}
-use Rattle.frame.specs.Frame.{Format}
+use Rattle.frame.specs.Frame.{Format, Packet}
 use Rattle.frame.specs.Rejection.{format_rejection, or_else, show_rejection}
 use Rattle.frame.specs.Show.{ShowSays}
 use Rattle.frame.specs.declared.rejection.Rejection.{Rejection}
 use Rattle.frame.specs.declared.show_result.ShowResult.{ShowResult}
 use Rattle.frame.specs.declared.show_result.ShowResult.TheVariants as shown
 use Rattle.encoder.specs.Code.{CodeSays, code_rejection, frame_of, worst_case}
-use Rattle.stream.specs.Receiver.{Packet, ReceiveSays, receive_rejection}
+use Rattle.stream.specs.Receiver.{ReceiveSays, receive_rejection}
 use Rattle.stream.specs.declared.receiver.Receiver.{Receiver}
 use Rattle.camera.specs.Packed.{Packs}
 use Rattle.camera.specs.declared.answer.Answer.{Answer}

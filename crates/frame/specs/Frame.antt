@@ -26,6 +26,11 @@ pub record Frame : Type 0 where
   pub header : FrameHeader
   pub bits : Bits
 
+-- a frame with its sequence number
+pub record Packet : Type 0 where
+  pub number : ℕ
+  pub frame : Frame
+
 -- blocks follow each other row by row; where a reader stands after n of them, and which one then comes
 unfoldable pub past : (key : Bool) → ReaderState → ℕ → ReaderState
 past key r zero = r

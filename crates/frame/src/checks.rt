@@ -1,10 +1,11 @@
 // Formats and pictures that can be worked with, and why others are rejected.
 ghost use Rattle.frame.specs.Frame.{block_count, plane_size};
 ghost use Rattle.frame.specs.Rejection.{few, format_rejection, planes_rejection};
-ghost use Rattle.frame.specs.Show.{ChecksSay, FormatSays, format_of};
+ghost use Rattle.frame.specs.Show.{ChecksSay, FormatSays, format_of, header_format};
 ghost use Rattle.std.specs.Prelude.{◌≡◌, ◌*◌};
 
 use crate::format::Format;
+use crate::header::VideoHeader;
 use crate::rejection::{Extent, Plane, Rejection};
 use block::{PlaneSize, Step};
 
@@ -85,5 +86,15 @@ impl Format {
             return Err(Rejection::PictureLength(Plane::Output));
         }
         Ok(())
+    }
+}
+
+impl TryFrom<VideoHeader> for Format {
+    type Error = Rejection;
+
+    ghost try_from_gives = { λ header result. FormatSays (format_rejection header.across header.down header.step) (header_format header) result };
+
+    fn try_from(header: VideoHeader) -> Result<Format, Rejection> {
+        Format::new(header.across, header.down, header.step)
     }
 }

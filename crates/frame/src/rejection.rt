@@ -1,5 +1,5 @@
 // Which number of blocks is out of range.
-#[derive(Clone, Copy)]
+#[derive(Clone, Copy, PartialEq, Eq, Debug)]
 pub enum Extent {
     Across,
     Down,
@@ -7,14 +7,14 @@ pub enum Extent {
 }
 
 // Which picture has the wrong length.
-#[derive(Clone, Copy)]
+#[derive(Clone, Copy, PartialEq, Eq, Debug)]
 pub enum Plane {
     Reference,
     Output,
 }
 
 // Why a call is rejected. What is rejected changes nothing.
-#[derive(Clone, Copy)]
+#[derive(Clone, Copy, PartialEq, Eq, Debug)]
 pub enum Rejection {
     // No block across or down, more than 60, or more than 224 in all.
     BlockCount(Extent),

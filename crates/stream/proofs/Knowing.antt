@@ -1,10 +1,10 @@
 -- What a receiver shows of the video whose packets it has received, whichever they were.
 use Rattle.std.proofs.Common.{◌≡◌, ℕ, suc, Bool, true, false, cond, ◌&&◌, eqb, ltb, ◌⊎◌, [], ◌∷◌, refl, ap, ◌∙◌, inl, inr, arith}
 use Rattle.std.proofs.lemmas.Bool.{and_parts, eqb-true, false≢true, or_cases}
-use Rattle.frame.specs.Frame.{Format, shows, valid}
+use Rattle.frame.specs.Frame.{Format, Packet, shows, valid}
 use Rattle.frame.proofs.Keys.{key_alone}
 use Rattle.stream.specs.Promise.{AlwaysSome, LensToEye, ShownIsTrue, SureIsTrue, SureOfSome, none, more}
-use Rattle.stream.specs.Receiver.{Packet, ReceiverState, after_packets, received, start_receiver, wanted}
+use Rattle.stream.specs.Receiver.{ReceiverState, after_packets, received, start_receiver, wanted}
 use Rattle.frame.specs.Video.{Video, picture_after}
 use Rattle.stream.proofs.Steps.{showing, staying}
 

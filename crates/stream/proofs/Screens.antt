@@ -4,10 +4,10 @@ use Rattle.std.proofs.lemmas.Simd.{length-replicate}
 use Rattle.std.proofs.lemmas.List.{take-append-drop}
 use Rattle.std.proofs.lemmas.Bool.{eq-eqb}
 use Rattle.block.specs.Picture.{black}
-use Rattle.frame.specs.Frame.{Format, block_count}
+use Rattle.frame.specs.Frame.{Format, Packet, block_count}
 use Rattle.frame.specs.Rejection.{picture_rejection}
 use Rattle.frame.specs.declared.rejection.Rejection.{Rejection}
-use Rattle.stream.specs.Receiver.{Packet, ReceiveSays, ReceiverState, Stands, after_packets, marked, number_rejection, receive_rejection, start_receiver}
+use Rattle.stream.specs.Receiver.{ReceiveSays, ReceiverState, Stands, after_packets, marked, number_rejection, receive_rejection, start_receiver}
 use Rattle.stream.specs.Screen.{FollowsSource, Received, ScreenSays, ShowsVideo, number_shown, picture_shown, screen_format, screen_pixels}
 use Rattle.frame.specs.Video.{Video, picture_after}
 use Rattle.stream.specs.declared.receiver.Receiver.{Receiver}

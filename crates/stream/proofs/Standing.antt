@@ -2,7 +2,7 @@
 use Rattle.std.proofs.Common.{◌≡◌, ℕ, ◌+◌, ◌*◌, ◌^◌, ◌<◌, ◌≤◌, true, false, List, length, None, Ok, Err, refl, ◌∙◌, inl, inr, add-one, arith}
 use Rattle.std.proofs.lemmas.Bool.{eq-eqb, le-leb, lt-leb, ne_eqb}
 use Rattle.block.specs.Picture.{Picture, picture_in}
-use Rattle.frame.specs.Frame.{Format, Frame, Holds, block_count, shows, valid}
+use Rattle.frame.specs.Frame.{Format, Frame, Holds, Packet, block_count, shows, valid}
 use Rattle.frame.specs.Rejection.{picture_rejection}
 use Rattle.frame.specs.Show.{ShowSays}
 use Rattle.frame.specs.declared.rejection.Rejection.TheVariants.{BadText, PictureLength}
@@ -10,7 +10,7 @@ use Rattle.frame.specs.declared.rejection.Plane.TheVariants.{Reference}
 use Rattle.frame.specs.declared.show_result.ShowResult.{ShowResult}
 use Rattle.frame.specs.declared.show_result.ShowResult.TheVariants.{Shown}
 use Rattle.frame.proofs.Edges.{within_edges}
-use Rattle.stream.specs.Receiver.{Packet, ReceiveSays, marked, receive_rejection, wanted}
+use Rattle.stream.specs.Receiver.{ReceiveSays, marked, receive_rejection, wanted}
 use Rattle.stream.specs.declared.receiver.Receiver.{Receiver}
 use Rattle.stream.proofs.Steps.{late_ignored, received_invalid, received_shown, received_unwanted}
 

@@ -1,9 +1,9 @@
 -- The ways of a packet: late, shown, or not shown; each as an equation.
 use Rattle.std.proofs.Common.{◌≡◌, suc, ◌≤◌, Bool, true, false, cond, ltb, sym, refl, arith}
 use Rattle.std.proofs.lemmas.Bool.{and_from, and_right, eq-eqb, le-ltb, lt-ltb, or_left, or_right, true≢false}
-use Rattle.frame.specs.Frame.{Format, shows, valid}
+use Rattle.frame.specs.Frame.{Format, Packet, shows, valid}
 use Rattle.stream.specs.Promise.{GoesOn, LateIgnored, NextMoves, Recovers}
-use Rattle.stream.specs.Receiver.{Packet, ReceiverState, received, wanted}
+use Rattle.stream.specs.Receiver.{ReceiverState, received, wanted}
 
 -- what a receiver is after it showed a packet, and after it did not
 abbrev pub showing : Format → ReceiverState → Packet → ReceiverState

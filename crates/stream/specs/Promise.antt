@@ -1,9 +1,9 @@
 -- What a receiver promises, of every video and every sequence of packets. Each is a statement, and a function's contract asks for its proof.
 use Rattle.std.specs.Prelude.{◌≡◌, ℕ, suc, ◌/◌, ◌<◌, ◌≤◌, true, false, List, [], ◌∷◌}
 use Rattle.block.specs.Picture.{Picture}
-use Rattle.frame.specs.Frame.{Format, valid}
+use Rattle.frame.specs.Frame.{Format, Packet, valid}
 use Rattle.frame.specs.Video.{Video, Near, Follows, picture_after}
-use Rattle.stream.specs.Receiver.{ReceiverState, Packet, received, after_packets}
+use Rattle.stream.specs.Receiver.{ReceiverState, received, after_packets}
 
 -- packets of a video: each has the frame with its number, in whatever order, however often, whichever are missing
 pub data Sent (video : Video) : List Packet → Type 0 where

@@ -1,7 +1,7 @@
 -- What a receiver makes of packets. Assumes nothing: these are definitions.
 use Rattle.std.specs.Prelude.{◌≡◌, ℕ, suc, ◌^◌, Bool, true, false, cond, ◌&&◌, ◌||◌, List, [], ◌∷◌, Some, None, Ok, Err, Option, Result, ◌==◌, nat_le, nat_lt}
 use Rattle.block.specs.Picture.{Picture, black}
-use Rattle.frame.specs.Frame.{Format, Frame, Holds, shows, valid}
+use Rattle.frame.specs.Frame.{Format, Frame, Holds, Packet, shows, valid}
 use Rattle.frame.specs.Rejection.{or_else, picture_rejection, unless}
 use Rattle.frame.specs.declared.rejection.Rejection.{Rejection}
 use Rattle.frame.specs.declared.rejection.Rejection.TheVariants.{BadText}
@@ -12,11 +12,6 @@ pub record ReceiverState : Type 0 where
   pub picture : Picture
   pub sure : Bool
   pub next : ℕ
-
--- a frame with its sequence number
-pub record Packet : Type 0 where
-  pub number : ℕ
-  pub frame : Frame
 
 -- a packet that is not late is wanted if it is a key frame, or if the receiver is sure and expects just this one
 abbrev pub wanted : ReceiverState → Packet → Bool

@@ -1,11 +1,11 @@
 -- From lens to eye, over whole runs of an encoder and a screen. A statement, whose proof a function's contract asks for.
 use Rattle.std.specs.Prelude.{◌≡◌, ℕ, suc, ◌*◌, ◌/◌, ◌<◌, true, List}
 use Rattle.block.specs.Picture.{Picture, picture_in}
+use Rattle.frame.specs.Frame.{Packet}
 use Rattle.frame.specs.Video.{Near, Video}
 use Rattle.encoder.specs.Session.{Exact, Made, encoder_format}
 use Rattle.encoder.specs.declared.session.Encoder.{Encoder}
 use Rattle.stream.specs.Promise.{Sent}
-use Rattle.stream.specs.Receiver.{Packet}
 use Rattle.stream.specs.Screen.{Received, screen_format, screen_pixels}
 use Rattle.stream.specs.declared.screen.Screen.{Screen}
 

@@ -1,11 +1,11 @@
 -- What a screen has been through, and what it then shows. Assumes nothing: these are definitions.
 use Rattle.std.specs.Prelude.{◌≡◌, ℕ, zero, suc, ◌*◌, ◌/◌, ◌<◌, List, ◌∷◌, take, Some, None, Ok, Err, Option, Result}
 use Rattle.block.specs.Picture.{Picture, black, picture_in}
-use Rattle.frame.specs.Frame.{Format, Holds, block_count}
+use Rattle.frame.specs.Frame.{Format, Holds, Packet, block_count}
 use Rattle.frame.specs.Show.{format_of}
 use Rattle.frame.specs.declared.rejection.Rejection.{Rejection}
 use Rattle.stream.specs.Promise.{Sent}
-use Rattle.stream.specs.Receiver.{Packet, Stands, after_packets}
+use Rattle.stream.specs.Receiver.{Stands, after_packets}
 use Rattle.frame.specs.Video.{Follows, Near, Video, picture_after}
 use Rattle.stream.specs.declared.screen.Screen.{Screen}
 

@@ -1,7 +1,8 @@
 // A receiver with a picture of its own.
 ghost use Rattle.std.specs.Prelude.{◌≡◌, ℕ, suc, true, List, []};
 ghost use Rattle.bits.specs.Bits.{bits_of};
-ghost use Rattle.stream.specs.Receiver.{Packet, number_rejection};
+ghost use Rattle.frame.specs.Frame.{Packet};
+ghost use Rattle.stream.specs.Receiver.{number_rejection};
 ghost use Rattle.stream.specs.Screen.{FollowsSource, Received, ScreenSays, ShowsVideo, number_shown, picture_shown, screen_format, screen_pixels};
 ghost use Rattle.frame.specs.Video.{picture_after};
 
