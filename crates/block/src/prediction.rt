@@ -1,29 +1,42 @@
 // What a block is predicted from.
 ghost use Rattle.std.specs.Prelude.{◌≡◌, ℕ, ◌+◌, ◌*◌, ◌^◌, ◌<◌, true, false, MatchOption, slice_index};
-ghost use Rattle.block.specs.Picture.{picture_in};
+ghost use Rattle.block.specs.Picture.{picture_of};
 ghost use Rattle.block.specs.Prediction.{moved, predictable, predicted, stays_within};
 ghost use Rattle.block.specs.Transform.{pixel_in};
 
-use crate::block::{MotionVector, PlaneSize, Prediction};
+use crate::block::{MotionVector, Plane, Prediction};
 
-// The sixteen predicted pixels of the block whose first pixel is at column `left` and row `top`,
-// unless it would reach over an edge of the reference picture.
-pub fn predict(
-    reference: &[u8],
-    size: PlaneSize,
-    left: u16,
-    top: u16,
-    prediction: Prediction,
-) -> Option<[u8; 16]>
-    ensures { MatchOption result (predictable size left top prediction ≡ false) (λ p. (predictable size left top prediction ≡ true) × ((x y : ℕ) → x < 4 → y < 4 → pixel_in p x y ≡ predicted (picture_in size.width reference.now) left top prediction x y)) }
-{
-    match prediction {
-        Prediction::Flat(value) => Some([value; 16]),
-        Prediction::Motion(MotionVector { dx, dy }) => {
-            let column = moved_within(size.width, left, dx)?;
-            let row = moved_within(size.height, top, dy)?;
-            Some(pixels_at(reference, size.width, column, row))
+impl Plane<'_> {
+    // The sixteen predicted pixels of the block whose first pixel is at column `left` and row `top`,
+    // unless it would reach over an edge of this reference picture.
+    pub fn predict(self, left: u16, top: u16, prediction: Prediction) -> Option<[u8; 16]>
+        ensures { MatchOption result (predictable self.entry.size left top prediction ≡ false) (λ p. (predictable self.entry.size left top prediction ≡ true) × ((x y : ℕ) → x < 4 → y < 4 → pixel_in p x y ≡ predicted (picture_of self.entry) left top prediction x y)) }
+    {
+        match prediction {
+            Prediction::Flat(value) => Some([value; 16]),
+            Prediction::Motion(MotionVector { dx, dy }) => {
+                let column = moved_within(self.size.width, left, dx)?;
+                let row = moved_within(self.size.height, top, dy)?;
+                Some(self.block_at(column, row))
+            }
         }
+    }
+
+    // The block whose first pixel is at that column and row.
+    pub fn block_at(self, column: u16, row: u16) -> [u8; 16]
+        ensures { (x y : ℕ) → x < 4 → y < 4 → pixel_in result x y ≡ picture_of self.entry (column + x) (row + y) }
+    {
+        let stride = usize::from(self.size.width);
+        let first = usize::from(row) * stride + usize::from(column);
+        let mut pixels = [0; 16];
+        for y in 0..4 {
+            let [a, b, c, d] = four_pixels(self.pixels, first + y * stride);
+            pixels[4 * y] = a;
+            pixels[4 * y + 1] = b;
+            pixels[4 * y + 2] = c;
+            pixels[4 * y + 3] = d;
+        }
+        pixels
     }
 }
 
@@ -39,23 +52,6 @@ fn moved_within(end: u16, first: u16, by: i32) -> Option<u16>
         start + 4 > i64::from(end)
     };
     if over { None } else { Some(start as u16) }
-}
-
-// The block of a picture so wide whose first pixel is at that column and row. A pixel past the end counts as 0.
-pub fn pixels_at(reference: &[u8], width: u16, column: u16, row: u16) -> [u8; 16]
-    ensures { (x y : ℕ) → x < 4 → y < 4 → pixel_in result x y ≡ picture_in width reference.now (column + x) (row + y) }
-{
-    let stride = usize::from(width);
-    let first = usize::from(row) * stride + usize::from(column);
-    let mut pixels = [0; 16];
-    for y in 0..4 {
-        let [a, b, c, d] = four_pixels(reference, first + y * stride);
-        pixels[4 * y] = a;
-        pixels[4 * y + 1] = b;
-        pixels[4 * y + 2] = c;
-        pixels[4 * y + 3] = d;
-    }
-    pixels
 }
 
 // Four pixels in a row.

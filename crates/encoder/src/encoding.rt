@@ -9,7 +9,7 @@ ghost use Rattle.range_coder.specs.Decisions.{start_writer};
 use crate::choice::Place;
 use crate::levels::finished;
 use crate::motion::predicted;
-use block::{MotionVector, Prediction};
+use block::{MotionVector, Plane, Prediction};
 use frame::{Format, FrameHeader};
 use range_coder::Writer;
 
@@ -44,7 +44,11 @@ fn encode_block(
         left: 4 * column as u8,
         top: 4 * row as u8,
     };
-    let wanted = block::pixels_at(source, size.width, 4 * column as u16, 4 * row as u16);
+    let picture = Plane {
+        pixels: source,
+        size,
+    };
+    let wanted = picture.block_at(4 * column as u16, 4 * row as u16);
     let guess = predicted(header.key, reference, place, wanted, format.step(), before);
     let choice = finished(format.step(), wanted, guess);
     block::write_block(writer, header.key, choice.block);

@@ -3,7 +3,7 @@ ghost use Rattle.encoder.specs.Choice.{PredictedAs};
 ghost use Rattle.std.specs.Prelude.{◌≡◌, ℕ, ◌*◌, ◌≤◌, Bool, false, List, IfSome};
 
 use crate::choice::{Place, Predicted};
-use block::{MotionVector, Prediction, Step};
+use block::{MotionVector, Plane, Prediction, Step};
 
 // How often a search moves on from the best vector so far.
 const ROUNDS: usize = 8;
@@ -46,7 +46,11 @@ fn moved(reference: &[u8], place: Place, vector: MotionVector) -> Option<Predict
     let prediction = Prediction::Motion(vector);
     let left = u16::from(place.left);
     let top = u16::from(place.top);
-    let pixels = block::predict(reference, place.size, left, top, prediction)?;
+    let plane = Plane {
+        pixels: reference,
+        size: place.size,
+    };
+    let pixels = plane.predict(left, top, prediction)?;
     Some(Predicted { prediction, pixels })
 }
 

@@ -10,6 +10,7 @@ ghost use Rattle.range_coder.specs.Decisions.{ReaderState};
 use crate::drawing::put_block;
 use crate::format::Format;
 use crate::header::FrameHeader;
+use block::Plane;
 use range_coder::Reader;
 
 // Decodes the block in a column of the row of blocks, unless it would be taken from over an edge.
@@ -30,7 +31,11 @@ fn decode_block(
     let block = block::read_block(reader, header.key);
     let left = 4 * column as u16;
     let top = 4 * row as u16;
-    match block::predict(reference, format.plane_size(), left, top, block.prediction) {
+    let plane = Plane {
+        pixels: reference,
+        size: format.plane_size(),
+    };
+    match plane.predict(left, top, block.prediction) {
         Some(prediction) => {
             let pixels = block::reconstruct(format.step, block.levels, prediction);
             put_block(band, 4 * format.across, column, pixels);
