@@ -1,15 +1,14 @@
 // What `?` makes a refusal of.
 ghost use Rattle.std.specs.Prelude.{◌≡◌};
-ghost use Rattle.console.specs.Refusals.{of_text, of_write};
+ghost use Rattle.console.specs.Refusals.{of_packet};
 ghost use Rattle.console.specs.declared.refusal.Refusal.TheVariants.{OutOfMemory, Rejected, System, Unpictured, Words};
 
 use crate::refusal::Refusal;
-use container::WriteError;
 use frame::Rejection;
 use pictures::PictureError;
 use std::alloc::{AllocError, AllocFailed};
 use std::io;
-use text::TextError;
+use text::PacketError;
 
 impl From<Rejection> for Refusal {
     ghost from_gives = { λ e r. r ≡ Rejected e };
@@ -59,24 +58,13 @@ impl<T: Drop> From<AllocFailed<T>> for Refusal {
     }
 }
 
-impl From<TextError> for Refusal {
-    ghost from_gives = { λ e r. r ≡ of_text e };
+impl From<PacketError> for Refusal {
+    ghost from_gives = { λ e r. r ≡ of_packet e };
 
-    fn from(error: TextError) -> Refusal {
+    fn from(error: PacketError) -> Refusal {
         match error {
-            TextError::Rejected(rejection) => Refusal::Rejected(rejection),
-            TextError::OutOfMemory => Refusal::OutOfMemory,
-        }
-    }
-}
-
-impl From<WriteError> for Refusal {
-    ghost from_gives = { λ e r. r ≡ of_write e };
-
-    fn from(error: WriteError) -> Refusal {
-        match error {
-            WriteError::Rejected(rejection) => Refusal::Rejected(rejection),
-            WriteError::OutOfMemory => Refusal::OutOfMemory,
+            PacketError::Rejected(rejection) => Refusal::Rejected(rejection),
+            PacketError::OutOfMemory => Refusal::OutOfMemory,
         }
     }
 }

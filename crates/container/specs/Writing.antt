@@ -1,14 +1,14 @@
 -- What writing a packet does. Assumes nothing: these are definitions.
 use Rattle.std.specs.Prelude.{◌≡◌, ℕ, ◌^◌, ◌<◌, ◌≤◌, List, ◌++◌, length, drop, Some, None, Ok, Err, Option, Result, nat_le}
 use Rattle.container.specs.Container.{Packet, packet_bytes}
-use Rattle.container.specs.declared.write_error.WriteError.{WriteError}
-use Rattle.container.specs.declared.write_error.WriteError.TheVariants.{OutOfMemory, Rejected}
+use Rattle.text.specs.declared.error.PacketError.{PacketError}
+use Rattle.text.specs.declared.error.PacketError.TheVariants.{OutOfMemory, Rejected}
 use Rattle.frame.specs.Rejection.{or_else, unless}
 use Rattle.frame.specs.declared.rejection.Rejection.{Rejection}
 use Rattle.frame.specs.declared.rejection.Rejection.TheVariants.{BadText, BufferTooShort}
 
 -- at the end of a file, which is left as it was where there is an error
-abbrev pub Written : Packet → (before : List ℕ) → Result (Unit {0}) WriteError → (after : List ℕ) → Type 0
+abbrev pub Written : Packet → (before : List ℕ) → Result (Unit {0}) PacketError → (after : List ℕ) → Type 0
 Written p before (Ok u) after = (p.number ≤ 2 ^ 62) × (after ≡ before ++ packet_bytes p)
 Written p before (Err (Rejected e)) after = (2 ^ 62 < p.number) × (e ≡ BadText (length before)) × (after ≡ before)
 Written p before (Err OutOfMemory) after = after ≡ before

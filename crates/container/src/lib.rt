@@ -11,7 +11,6 @@ mod streaming;
 #[cfg(test)]
 mod tests;
 mod varint;
-mod write_error;
 mod writing;
 
 pub use header::{read_header, write_header};
@@ -19,5 +18,5 @@ pub use packet::{PacketAt, PacketHead};
 pub use promises::{any_pieces, cut_anywhere, one_form, read_back};
 pub use reader::PacketReader;
 pub use reading::read_packet;
-pub use write_error::WriteError;
+pub use text::PacketError;
 pub use writing::{write_packet, write_packet_into};

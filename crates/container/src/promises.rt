@@ -1,27 +1,24 @@
 // The theorems about files, each as a contract.
 ghost use Rattle.container.specs.Promise.{AnyPieces, CutAnywhere, HeaderReadBack, OneForm, ReadBack};
 
-pub fn read_back() -> u8
+pub fn read_back()
     ensures header { HeaderReadBack }
     ensures packets { ReadBack }
 {
     text::reads_back()
 }
 
-pub fn cut_anywhere() -> u8
+pub fn cut_anywhere()
     ensures { CutAnywhere }
 {
-    0
 }
 
-pub fn one_form() -> u8
+pub fn one_form()
     ensures { OneForm }
 {
-    0
 }
 
-pub fn any_pieces() -> u8
+pub fn any_pieces()
     ensures { AnyPieces }
 {
-    0
 }

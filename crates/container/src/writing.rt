@@ -5,8 +5,8 @@ ghost use Rattle.container.specs.Writing.{WritesInto, Written, write_rejection};
 
 use crate::reading::MAX_NUMBER;
 use crate::varint::put_varint;
-use crate::write_error::WriteError;
 use frame::Rejection;
+use text::PacketError;
 
 // The bytes before a frame's: two numbers of ten bytes at most.
 #[derive(Drop)]
@@ -33,19 +33,19 @@ pub fn write_packet(
     key: bool,
     bytes: &[u8],
     out: &mut Vec<u8>,
-) -> Result<(), WriteError>
+) -> Result<(), PacketError>
     ensures { Written (record { number = number; key = key; bytes = bytes.now }) out.old.items result out.new.items }
 {
     let position = out.len();
     if number > MAX_NUMBER {
-        return Err(WriteError::Rejected(Rejection::BadText(position as u64)));
+        return Err(PacketError::Rejected(Rejection::BadText(position as u64)));
     }
     let head = head_bytes(number, key, bytes.len());
     let size = head.size;
     out.extend_from_slice(&head.bytes[0..size])?;
     if out.extend_from_slice(bytes).is_err() {
         out.truncate(position);
-        return Err(WriteError::OutOfMemory);
+        return Err(PacketError::OutOfMemory);
     }
     Ok(())
 }

@@ -11,7 +11,7 @@ use frame::{Format, FrameHeader, Rejection};
 use std::alloc::Global;
 use std::process::ExitCode;
 use stream::Screen;
-use text::{Header, TextError};
+use text::{Header, PacketError};
 use view::View;
 use wish::Wish;
 
@@ -32,18 +32,18 @@ fn receive_line(
     screen: &mut Screen,
     line: &str,
     position: u64,
-) -> Result<(), TextError> {
+) -> Result<(), PacketError> {
     let packet = match text::parse_packet(heap, line) {
         Ok(packet) => packet,
-        Err(TextError::Rejected(rejection)) => return Err(TextError::Rejected(text::placed(
+        Err(PacketError::Rejected(rejection)) => return Err(PacketError::Rejected(text::placed(
             rejection, position,
         ))),
-        Err(TextError::OutOfMemory) => return Err(TextError::OutOfMemory),
+        Err(PacketError::OutOfMemory) => return Err(PacketError::OutOfMemory),
     };
     let header = FrameHeader { key: packet.key };
     match screen.receive(packet.number, header, packet.bytes.as_slice()) {
         Ok(()) => Ok(()),
-        Err(rejection) => Err(TextError::Rejected(text::placed(rejection, position))),
+        Err(rejection) => Err(PacketError::Rejected(text::placed(rejection, position))),
     }
 }
 

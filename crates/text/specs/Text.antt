@@ -1,8 +1,8 @@
 -- The text forms: what a line of each form means, and the line that is written. Assumes nothing: these are definitions.
 use Rattle.std.specs.Prelude.{◌≡◌, ℕ, zero, suc, ◌-◌, ◌^◌, Bool, cond, List, [], ◌∷◌, ◌++◌, map, is_ok, Some, None, Ok, Err, vec_items, codes, decimal, Option, Result}
 use Rattle.frame.specs.declared.rejection.Rejection.{Rejection}
-use Rattle.text.specs.declared.error.TextError.{TextError}
-use Rattle.text.specs.declared.error.TextError.TheVariants.{Rejected, OutOfMemory}
+use Rattle.text.specs.declared.error.PacketError.{PacketError}
+use Rattle.text.specs.declared.error.PacketError.TheVariants.{Rejected, OutOfMemory}
 use Rattle.text.specs.declared.forms.Header.{Header}
 use Rattle.text.specs.declared.forms.Packet.{Packet}
 use Rattle.text.specs.Line.{Words, end, word, words, rest, next_is, next_keyword, next_number, at_end, no_more}
@@ -84,7 +84,7 @@ abbrev pub packet_text : PacketFields → List ℕ
 packet_text p = line_of (packet_words p)
 
 -- what is answered where memory can run out, which says nothing of the line
-abbrev pub Reads : {A B : Type 0} → (A → B) → Result B Rejection → Result A TextError → Type 0
+abbrev pub Reads : {A B : Type 0} → (A → B) → Result B Rejection → Result A PacketError → Type 0
 Reads value meant (Ok x) = meant ≡ Ok (value x)
 Reads value meant (Err (Rejected e)) = meant ≡ Err e
 Reads value meant (Err OutOfMemory) = Unit {0}

@@ -11,7 +11,7 @@ mod promises;
 mod reader;
 mod writing;
 
-pub use error::TextError;
+pub use error::PacketError;
 pub use forms::{Header, Packet};
 pub use parsing::{
     is_blank_line, is_key_line, is_worst_line, parse_header, parse_packet, parse_row, parse_worst,

@@ -3,7 +3,7 @@ ghost use Rattle.std.specs.Prelude.{◌≡◌, true, length, is_ok, Ok, vec_item
 ghost use Rattle.text.specs.Line.{left};
 ghost use Rattle.text.specs.Text.{Reads, blank_line, bytes_to_end, fields, header_of, key_line, outcome, packet_of, pixels_of, row_after, row_of, worst_line, worst_of};
 
-use crate::error::TextError;
+use crate::error::PacketError;
 use crate::forms::{Header, Packet};
 use crate::reader::LineReader;
 use frame::Rejection;
@@ -53,7 +53,7 @@ fn fill_row(mut words: LineReader<'_>, row: &mut [u8])
     }
 }
 
-pub fn parse_packet(heap: Global, line: &str) -> Result<Packet, TextError>
+pub fn parse_packet(heap: Global, line: &str) -> Result<Packet, PacketError>
     ensures { Reads fields (packet_of line.now) result }
 {
     let mut words = LineReader::new(line);
@@ -63,7 +63,7 @@ pub fn parse_packet(heap: Global, line: &str) -> Result<Packet, TextError>
     Ok(Packet { number, key, bytes })
 }
 
-fn read_bytes(heap: Global, mut words: LineReader<'_>) -> Result<Vec<u8>, TextError>
+fn read_bytes(heap: Global, mut words: LineReader<'_>) -> Result<Vec<u8>, PacketError>
     ensures { Reads vec_items (bytes_to_end (left words.entry)) result }
 {
     let mut bytes = Vec::new(heap);

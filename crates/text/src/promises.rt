@@ -1,20 +1,17 @@
 // The theorems about the text forms, each as a contract.
 ghost use Rattle.text.specs.Promise.{CutIntoWords, Examples, ReadsBack};
 
-pub fn reads_back() -> u8
+pub fn reads_back()
     ensures { ReadsBack }
 {
-    0
 }
 
-pub fn cut_into_words() -> u8
+pub fn cut_into_words()
     ensures { CutIntoWords }
 {
-    0
 }
 
-pub fn worked_examples() -> u8
+pub fn worked_examples()
     ensures { Examples }
 {
-    0
 }
