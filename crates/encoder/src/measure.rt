@@ -5,9 +5,10 @@ ghost use Rattle.encoder.specs.Measure.{Worst};
 pub fn worst_distance(picture: &[u8], source: &[u8]) -> u8
     ensures { Worst picture.now source.now result }
 {
-    let mut worst = 0u8;
-    for i in 0..picture.len().min(source.len()) {
-        worst = worst.max(block::distance(picture[i], source[i]));
-    }
-    worst
+    picture
+        .iter()
+        .zip(source)
+        .map(|(a, b)| block::distance(*a, *b))
+        .max()
+        .unwrap_or(0)
 }

@@ -1,26 +1,18 @@
 // The theorems about encoders, each as a contract.
 ghost use Rattle.encoder.specs.Promise.{Faithful, FramesKept, LosslessAtOne, PictureNear};
 
-pub fn faithful() -> u8
+pub fn faithful()
     ensures { Faithful }
-{
-    0
-}
+{}
 
-pub fn lossless_at_one() -> u8
+pub fn lossless_at_one()
     ensures { LosslessAtOne }
-{
-    0
-}
+{}
 
-pub fn picture_near() -> u8
+pub fn picture_near()
     ensures { PictureNear }
-{
-    0
-}
+{}
 
-pub fn frames_kept() -> u8
+pub fn frames_kept()
     ensures { FramesKept }
-{
-    0
-}
+{}
