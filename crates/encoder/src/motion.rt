@@ -12,9 +12,9 @@ const ROUNDS: usize = 8;
 fn difference(a: [u8; 16], b: [u8; 16]) -> u32
     ensures { result ≤ 16 * 255 }
 {
-    let mut sum = 0u32;
-    for i in 0..16 {
-        sum += u32::from(block::distance(a[i], b[i]));
+    let mut sum = 0;
+    for (a, b) in a.iter().zip(&b) {
+        sum += u32::from(block::distance(*a, *b));
     }
     sum
 }
