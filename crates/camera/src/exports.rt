@@ -7,7 +7,7 @@ use crate::answer::Answer;
 use crate::packing::pack;
 use crate::receiver::CReceiver;
 use crate::receiving::receive;
-use frame::{Format, ShowResult};
+use frame::{Format, ShowResult, VideoHeader};
 use stream::Receiver;
 
 // How many bytes any frame of a format fits in.
@@ -33,16 +33,8 @@ pub fn zukhtavo_code(
 ) -> u64
     ensures { CodeAnswers across down step (is_set key) source.now reference.now buffer.old output.old result buffer.new output.new }
 {
-    match encoder::code(
-        across,
-        down,
-        step,
-        key > 0,
-        source,
-        reference,
-        buffer,
-        output,
-    ) {
+    let header = VideoHeader { across, down, step };
+    match encoder::code(header, key > 0, source, reference, buffer, output) {
         Ok(length) => pack(Answer::Length(length as u64)),
         Err(rejection) => pack(Answer::Rejected(rejection)),
     }

@@ -4,7 +4,6 @@ pub mod Proceeding
 pub mod Rows
 pub mod Finishing
 pub mod Pictures
-pub mod Lowering
 pub mod Following
 pub mod Lengthening
 pub mod Sessions

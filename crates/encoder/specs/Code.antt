@@ -6,8 +6,10 @@ use Rattle.block.specs.Picture.{picture_in}
 use Rattle.block.specs.Transform.{distance}
 use Rattle.frame.specs.Frame.{Format, Frame, Holds, block_count, past, shows, valid}
 use Rattle.frame.specs.Rejection.{format_rejection, or_else, planes_rejection, unless}
+use Rattle.frame.specs.Show.{format_of}
 use Rattle.frame.specs.declared.rejection.Rejection.{Rejection}
 use Rattle.frame.specs.declared.rejection.Rejection.TheVariants.{BufferTooShort, SourceLength}
+use Rattle.encoder.specs.declared.input.FrameInput.{FrameInput}
 
 -- how many bytes any frame of a format fits in, whatever blocks are chosen
 abbrev pub worst_case : Format → ℕ
@@ -56,3 +58,11 @@ CodeSays None f key source reference buffer output (Ok n) buffer₁ output₁ =
 CodeSays None f key source reference buffer output (Err e) buffer₁ output₁ =
     (e ≡ BufferTooShort (length buffer)) × (length buffer < worst_case f) × (buffer₁ ≡ buffer) × (output₁ ≡ output)
     × TooShort f key source reference (length buffer)
+
+-- the same of a frame's input: what it can be rejected for, and what coding it answers and leaves
+abbrev pub input_rejection : FrameInput → (output : List ℕ) → Option Rejection
+input_rejection input output = pictures_rejection (16 * block_count (format_of input.format)) input.source.now input.reference.now output
+
+abbrev pub InputCoded : Option Rejection → FrameInput → (buffer output : List ℕ) → Result ℕ Rejection → (buffer₁ output₁ : List ℕ) → Type 0
+InputCoded x input buffer output r buffer₁ output₁ =
+    CodeSays x (format_of input.format) input.header.key input.source.now input.reference.now buffer output r buffer₁ output₁

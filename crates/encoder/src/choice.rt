@@ -1,12 +1,5 @@
-use block::{Block, PlaneSize, Prediction};
-
-// Where a block is: the picture's size, and the column and row of the block's first pixel.
-#[derive(Clone, Copy)]
-pub struct Place {
-    pub size: PlaneSize,
-    pub left: u8,
-    pub top: u8,
-}
+// What is chosen for a block.
+use block::{Block, Prediction};
 
 // A prediction and the pixels that it makes.
 #[derive(Clone, Copy)]

@@ -4,6 +4,7 @@
 mod choice;
 mod coding;
 mod encoding;
+mod input;
 mod levels;
 mod measure;
 mod motion;
@@ -11,6 +12,7 @@ mod promises;
 mod session;
 
 pub use coding::{code, code_frame, worst_case_size};
+pub use input::FrameInput;
 pub use measure::worst_distance;
 pub use promises::{faithful, frames_kept, lossless_at_one, picture_near};
 pub use session::{Encoder, Pushed};

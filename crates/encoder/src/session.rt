@@ -6,7 +6,8 @@ ghost use Rattle.frame.specs.Frame.{Holds};
 ghost use Rattle.frame.specs.Video.{Video, picture_after};
 
 use crate::coding::code_frame;
-use frame::{Format, FrameHeader, Rejection};
+use crate::input::FrameInput;
+use frame::{Format, FrameHeader, MAX_SEQUENCE_NUMBER, Rejection};
 
 #[derive(Drop)]
 pub struct Encoder {
@@ -73,21 +74,20 @@ impl Encoder {
         requires { length scratch.old ≡ 3584 }
         ensures { PushSays (push_rejection self.old source.now) self.old source.now key buffer.old result self.new buffer.new }
     {
-        if self.next > 1 << 62 {
+        if self.next > MAX_SEQUENCE_NUMBER {
             return Err(Rejection::BadText(0));
         }
         let header = FrameHeader {
             key: self.next_is_key(key),
         };
         let pixels = self.format.pixel_count();
-        let length = code_frame(
-            self.format,
+        let input = FrameInput {
+            format: self.format,
             header,
             source,
-            &self.pixels[..pixels],
-            buffer,
-            &mut scratch[..pixels],
-        )?;
+            reference: &self.pixels[..pixels],
+        };
+        let length = code_frame(input, buffer, &mut scratch[..pixels])?;
         self.pixels[..pixels].copy_from_slice(&scratch[..pixels]);
         let number = self.next;
         self.next += 1;

@@ -2,6 +2,7 @@
 use crate::group::Group;
 use crate::pictures::{ROOM, change, copy, draw, first, first_mut, is_near, shift};
 use crate::random::Random;
+use encoder::FrameInput;
 use frame::{Format, FrameHeader, Rejection, ShowResult};
 use std::io;
 
@@ -43,8 +44,13 @@ fn code_and_show(
     let mut shown = [0; ROOM];
     let coded = first_mut(&mut coded, format.pixel_count());
     let shown = first_mut(&mut shown, format.pixel_count());
-    let Ok(length) = encoder::code_frame(format, header, source, reference, &mut buffer, coded)
-    else {
+    let input = FrameInput {
+        format,
+        header,
+        source,
+        reference,
+    };
+    let Ok(length) = encoder::code_frame(input, &mut buffer, coded) else {
         return Err("the encoder rejects it");
     };
     let bytes = first(&buffer, length);

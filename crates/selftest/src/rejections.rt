@@ -3,7 +3,7 @@ use crate::group::Group;
 use crate::pictures::{first, first_mut};
 use crate::random::Random;
 use encoder::Encoder;
-use frame::{Format, FrameHeader, Rejection, ShowResult};
+use frame::{Format, FrameHeader, Rejection, ShowResult, VideoHeader};
 use std::io;
 use stream::{Receiver, Screen};
 
@@ -73,9 +73,7 @@ fn code(size: Size, lengths: Lengths) -> Outcome {
     let mut picture = [2; 100];
     let mut bytes = [3; 1688];
     let result = match encoder::code(
-        across,
-        down,
-        step,
+        VideoHeader { across, down, step },
         true,
         first(&pixels, source),
         first(&[1; 100], reference),

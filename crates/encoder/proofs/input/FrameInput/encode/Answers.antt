@@ -1,28 +1,28 @@
 use Rattle.std.proofs.Common.{◌≡◌, ◌+◌, ◌*◌, ◌≤◌, length, ap, subst, mul_comm, arith}
 use Rattle.std.proofs.lemmas.Nat.{mul-le}
 use Rattle.std.proofs.lemmas.List.Edits.{length-between}
-use Rattle.frame.specs.Show.{format_of}
 use Rattle.encoder.specs.Progress.{FrameEncoded}
 use Rattle.encoder.proofs.Rows.{frame_none, frame_more}
-use Rattle.encoder.proofs.encoding.encode.Goals as goal
+use Rattle.encoder.proofs.input.FrameInput.encode.Goals as goal
 
 pub loop-row-init : goal.loop-row-init
-loop-row-init c e s = frame_none (format_of c.args.format) c.args.header.key c.args.source.now c.args.reference.now c.args.writer.now c.args.output.now e s
+loop-row-init c e s = frame_none c.args.self.now c.args.writer.now c.args.output.now e s
 
 pub slice_bounds-encode_row-end : goal.slice_bounds-encode_row-end
 slice_bounds-encode_row-end c =
     let a = c.across-band.ensures in
-    omega (arith, mul-le (c.loop-row.row + 1) (16 * c.across-band.result) c.args.format.down (16 * c.across-band.result) (omega arith) (omega arith), mul_comm c.args.format.down c.across-band.result, ap (λ n. n * c.args.format.down) a)
+    let down = c.args.self.now.format.down in
+    omega (arith, mul-le (c.loop-row.row + 1) (16 * c.across-band.result) down (16 * c.across-band.result) (omega arith) (omega arith), mul_comm down c.across-band.result, ap (λ n. n * down) a)
 
 -- the row that was lent on starts within the picture, and is as long as a row of blocks
 module _ (c : goal.After-slice_known-in-loop-row-1) where
-  row_start : c.loop-row.row * (16 * c.across-band.result) ≡ c.loop-row.row * (16 * c.args.format.across)
+  row_start : c.loop-row.row * (16 * c.across-band.result) ≡ c.loop-row.row * (16 * c.args.self.now.format.across)
   row_start = ap (λ n. c.loop-row.row * (16 * n)) c.across-band.ensures
 
-  rows_within : (c.loop-row.row + 1) * (16 * c.args.format.across) ≤ length c.loop-row.output
-  rows_within = omega (arith, mul-le (c.loop-row.row + 1) (16 * c.args.format.across) c.args.format.down (16 * c.args.format.across) (omega arith) (omega arith))
+  rows_within : (c.loop-row.row + 1) * (16 * c.args.self.now.format.across) ≤ length c.loop-row.output
+  rows_within = omega (arith, mul-le (c.loop-row.row + 1) (16 * c.args.self.now.format.across) c.args.self.now.format.down (16 * c.args.self.now.format.across) (omega arith) (omega arith))
 
-  row_length : length c.encode_row.new.band ≡ 16 * c.args.format.across
+  row_length : length c.encode_row.new.band ≡ 16 * c.args.self.now.format.across
   row_length =
       let h = c.encode_row.auto.band in
       let e = ap (λ n. (c.loop-row.row + 1) * (16 * n)) c.across-band.ensures in
@@ -32,11 +32,11 @@ module _ (c : goal.After-slice_known-in-loop-row-1) where
 pub loop-row-preserved : goal.loop-row-preserved
 loop-row-preserved c e s =
     let g = c.loop-row.invariant e s in
-    frame_more (format_of c.args.format) c.args.header.key c.args.source.now c.args.reference.now c.loop-row.row _ _
+    frame_more c.args.self.now c.loop-row.row _ _
     c.loop-row.writer c.encode_row.new.writer c.loop-row.output c.encode_row.new.band g (c.encode_row.ensures g.next)
     (row_start c) (row_length c) (omega (arith, row_start c, rows_within c))
 
 pub returns : goal.returns
 returns c e s =
-    let n : c.loop-row.row ≡ c.args.format.down = omega arith in
-    subst (λ k. FrameEncoded (format_of c.args.format) c.args.header.key c.args.source.now c.args.reference.now k c.loop-row.writer c.loop-row.output) n (c.loop-row.invariant e s)
+    let n : c.loop-row.row ≡ c.args.self.now.format.down = omega arith in
+    subst (λ k. FrameEncoded c.args.self.now k c.loop-row.writer c.loop-row.output) n (c.loop-row.invariant e s)
