@@ -4,10 +4,9 @@ ghost use Rattle.console.specs.Source.{Grown, LineEnd};
 
 use crate::refusal::Refusal;
 use crate::source::Source;
-use frame::Rejection;
+use frame::{Rejection, VideoHeader};
 use std::alloc::Global;
 use std::str;
-use text::Header;
 
 // A line without its newline, and where it begins in the input.
 #[derive(Drop)]
@@ -74,7 +73,7 @@ impl Source {
     }
 
     // The header line of a text.
-    pub fn header_line(&mut self, heap: Global) -> Result<Header, Refusal> {
+    pub fn header_line(&mut self, heap: Global) -> Result<VideoHeader, Refusal> {
         match self.next_line(heap)? {
             Some(line) => Ok(text::parse_header(line.text.as_str())?),
             None => Err("there is no input; its first line should be: size A D step S".into()),

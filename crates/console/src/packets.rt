@@ -5,8 +5,8 @@ ghost use Rattle.container.specs.Reader.{ending, frame_of, state_of};
 use crate::refusal::Refusal;
 use crate::source::Source;
 use container::{PacketHead, PacketReader};
+use frame::VideoHeader;
 use std::alloc::Global;
-use text::Header;
 
 // No header line that says a format is longer, unless it has needless zeros or spaces.
 const LONGEST_HEADER: usize = 16384;
@@ -19,7 +19,7 @@ pub struct PacketSource {
 
 impl PacketSource {
     // Reads the header line of a file.
-    pub fn open(heap: Global, mut source: Source) -> Result<(Header, PacketSource), Refusal> {
+    pub fn open(heap: Global, mut source: Source) -> Result<(VideoHeader, PacketSource), Refusal> {
         source.read_to_line_end(LONGEST_HEADER)?;
         let (header, start) = container::read_header(source.front())?;
         source.take(start);

@@ -1,35 +1,21 @@
 -- The first line of a file.
-use Rattle.std.proofs.Common.{◌≡◌, ℕ, suc, ◌+◌, ◌%◌, ◌^◌, ◌<◌, List, [], ◌∷◌, ◌++◌, length, get_or, take, drop, Ok, IsUtf8, decimal, Result, refl, ap, ◌∙◌, arith, rules}
+use Rattle.std.proofs.Common.{◌≡◌, ℕ, suc, ◌+◌, ◌%◌, ◌^◌, ◌<◌, List, [], ◌∷◌, ◌++◌, length, take, Ok, IsUtf8, decimal, Result, refl, ap, ◌∙◌, arith, rules}
 use Rattle.container.specs.HeaderLine.{HeaderRead, first_line, header_line, line_length}
 use Rattle.frame.specs.declared.rejection.Rejection.{Rejection}
 use Rattle.std.proofs.ByRecursion.{IsAscii-from_all, All-append, All-push, All-weaker}
 use Rattle.std.proofs.lemmas.Fmt.{decimal_by_steps}
-use Rattle.std.proofs.lemmas.List.{append_assoc, at_drop_all, at_drop_more, length-append, take_at}
+use Rattle.std.proofs.lemmas.List.{append_assoc, length-append, take_at}
 use Rattle.std.proofs.lemmas.Bool.{eq-eqb, ne_eqb}
 use Rattle.std.proofs.lemmas.Str.{IsUtf8-from_ascii}
 use Rattle.std.specs.List.{AllByRecursion}
 use Rattle.text.specs.Text.{header_of, header_text, header_words, line_of, spaced}
-use Rattle.text.specs.declared.forms.Header.{Header}
+use Rattle.frame.specs.declared.header.VideoHeader.{VideoHeader}
 
 line_ends : (b : ℕ) (bs : List ℕ) → b ≡ 10 → line_length (b ∷ bs) ≡ 0
-unfolding line_length
 line_ends b bs e = rw (eq-eqb b 10 e)
 
-line_goes_on : (b : ℕ) (bs : List ℕ) → (b ≡ 10 → ⊥) → line_length (b ∷ bs) ≡ suc (line_length bs)
-unfolding line_length
+line_goes_on : (b : ℕ) (bs : List ℕ) → (b ≡ 10 → ⊥) → line_length (b ∷ bs) ≡ 1 + line_length bs
 line_goes_on b bs e = rw (ne_eqb b 10 e)
-
--- the turns of the loop that looks for the newline
-module _ (file : List ℕ) (index : ℕ) (so_far : index + line_length (drop index file) ≡ line_length file) where
-  pub found_newline : index < length file → get_or file index 0 ≡ 10 → index ≡ line_length file
-  found_newline h e = omega (arith, at_drop_more line_length file index 0 h, line_ends (get_or file index 0) (drop (index + 1) file) e)
-
-  pub no_newline_yet : index < length file → (get_or file index 0 ≡ 10 → ⊥) → index + 1 + line_length (drop (index + 1) file) ≡ line_length file
-  no_newline_yet h e = omega (arith, at_drop_more line_length file index 0 h, line_goes_on (get_or file index 0) (drop (index + 1) file) e)
-
-  pub no_newline : index ≡ length file → length file ≡ line_length file
-  unfolding line_length
-  no_newline h = omega (arith, at_drop_all line_length file index (omega arith))
 
 -- A HEADER LINE IS READ BACK, since no byte of it is a newline
 abbrev InLine : ℕ → Type 0
@@ -38,7 +24,7 @@ InLine c = (10 < c) × (c < 128)
 line_of_text : (text tail : List ℕ) → AllByRecursion InLine text → line_length (text ++ 10 ∷ tail) ≡ length text
 line_of_text [] tail a = line_ends 10 tail refl
 line_of_text (c ∷ cs) tail a =
-    line_goes_on c (cs ++ 10 ∷ tail) (λ e. (let f : ⊥ = omega (arith, a.0) in f)) ∙ ap suc (line_of_text cs tail a.1)
+    omega (arith, line_goes_on c (cs ++ 10 ∷ tail) (λ e. (let f : ⊥ = omega (arith, a.0) in f)), line_of_text cs tail a.1)
 
 decimal_in_line : (n : ℕ) → n < 2 ^ 64 → AllByRecursion InLine (decimal n)
 decimal_in_line n h =
@@ -70,12 +56,12 @@ module _ (text tail : List ℕ) (in_line : AllByRecursion InLine text) where
   text_utf8 : IsUtf8 text
   text_utf8 = IsUtf8-from_ascii text (IsAscii-from_all text (All-weaker InLine (λ c. c < 128) (λ c a. a.1) text in_line))
 
-  text_reads : {h : Header} → header_of text ≡ Ok h → (answer : Result (Header × ℕ) Rejection) → HeaderRead ((text ++ 10 ∷ []) ++ tail) answer
+  text_reads : {h : VideoHeader} → header_of text ≡ Ok h → (answer : Result (VideoHeader × ℕ) Rejection) → HeaderRead ((text ++ 10 ∷ []) ++ tail) answer
       → answer ≡ Ok (h, length (text ++ 10 ∷ []))
   text_reads back answer r = r.as_text text_ended (rw text_first text_utf8) ∙ rw (text_first, back, text_length, length-append text (10 ∷ []))
 
-pub header_reads : (h : Header) → h.across < 2 ^ 64 → h.down < 2 ^ 64 → h.step < 2 ^ 64 → header_of (header_text h) ≡ Ok h
-    → (tail : List ℕ) (answer : Result (Header × ℕ) Rejection) → HeaderRead (header_line h ++ tail) answer → answer ≡ Ok (h, length (header_line h))
+pub header_reads : (h : VideoHeader) → h.across < 2 ^ 64 → h.down < 2 ^ 64 → h.step < 2 ^ 64 → header_of (header_text h) ≡ Ok h
+    → (tail : List ℕ) (answer : Result (VideoHeader × ℕ) Rejection) → HeaderRead (header_line h ++ tail) answer → answer ≡ Ok (h, length (header_line h))
 header_reads h across down step back tail answer r =
     let in_line : AllByRecursion InLine (header_text h) = words_in_line (header_words h)
     (search rules, (decimal_in_line h.across across, (decimal_in_line h.down down, (search rules, (decimal_in_line h.step step, tt))))) in

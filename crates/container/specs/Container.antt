@@ -4,6 +4,7 @@ use Rattle.container.specs.declared.fault.Fault.{Fault}
 use Rattle.container.specs.declared.fault.Fault.TheVariants.{Cut, Malformed}
 use Rattle.container.specs.declared.packet.PacketAt.{PacketAt}
 use Rattle.container.specs.declared.varint.Varint.{Varint}
+use Rattle.frame.specs.declared.packet.Packet as lent
 use Rattle.frame.specs.declared.rejection.Rejection.{Rejection}
 use Rattle.frame.specs.declared.rejection.Rejection.TheVariants.{PacketCut, BadText}
 use Rattle.std.specs.List.{between, flat_map}
@@ -22,6 +23,9 @@ pub record Packet : Type 0 where
   pub number : ℕ
   pub key : Bool
   pub bytes : List ℕ
+
+abbrev pub lent_packet : lent.Packet → Packet
+lent_packet p = record { number = p.number; key = p.frame.header.key; bytes = p.frame.bytes.now }
 
 -- the sequence number with the mark of a key frame
 abbrev pub tag : ℕ → Bool → ℕ

@@ -7,13 +7,13 @@ use Rattle.container.specs.Reader.{ReaderState, ending, fed, next_packet, state_
 use Rattle.frame.specs.declared.rejection.Rejection.{Rejection}
 use Rattle.frame.specs.declared.rejection.Rejection.TheVariants.{PacketCut}
 use Rattle.std.specs.List.{AllByRecursion}
-use Rattle.text.specs.declared.forms.Header.{Header}
+use Rattle.frame.specs.declared.header.VideoHeader.{VideoHeader}
 
 -- A HEADER LINE IS READ BACK, whatever stands after it, and the first packet begins where it ends: no byte of its text is a
 -- newline, and the text form reads back
 abbrev pub HeaderReadBack : Type 0
 HeaderReadBack =
-    (h : Header) (bytes : List ℕ) (answer : Result (Header × ℕ) Rejection) → h.across < 2 ^ 64 → h.down < 2 ^ 64 → h.step < 2 ^ 64 →
+    (h : VideoHeader) (bytes : List ℕ) (answer : Result (VideoHeader × ℕ) Rejection) → h.across < 2 ^ 64 → h.down < 2 ^ 64 → h.step < 2 ^ 64 →
     HeaderRead (header_line h ++ bytes) answer → answer ≡ Ok (h, length (header_line h))
 
 -- WHAT WAS WRITTEN IS READ BACK, the same packets in order and then a clean end: a number's groups add up to it again, so that

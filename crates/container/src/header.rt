@@ -1,13 +1,13 @@
 // The header line, which comes before the packets.
 ghost use Rattle.container.specs.HeaderLine.{HeaderRead, header_line, line_length};
-ghost use Rattle.std.specs.Prelude.{◌≡◌, ◌++◌, is_ok, if◌then◌else◌};
+ghost use Rattle.std.specs.Option.{SomeIff};
+ghost use Rattle.std.specs.Prelude.{◌≡◌, ◌<◌, ◌++◌, length, is_ok, if◌then◌else◌};
 
-use frame::Rejection;
+use frame::{Rejection, VideoHeader};
 use std::alloc::AllocError;
-use text::Header;
 
 // Adds a header line to a file. Where that fails, `out` is as it was.
-pub fn write_header(header: Header, out: &mut Vec<u8>) -> Result<(), AllocError>
+pub fn write_header(header: VideoHeader, out: &mut Vec<u8>) -> Result<(), AllocError>
     ensures { out.new.items ≡ (if is_ok result then out.old.items ++ header_line header else out.old.items) }
 {
     let mut line = text::write_header(*out.allocator(), header)?;
@@ -15,26 +15,18 @@ pub fn write_header(header: Header, out: &mut Vec<u8>) -> Result<(), AllocError>
     out.extend_from_slice(line.as_bytes())
 }
 
-// How many bytes stand before the first newline.
-fn first_line_length(file: &[u8]) -> usize
-    ensures { result ≡ line_length file.now }
+// The first newline's place.
+fn newline(file: &[u8]) -> Option<usize>
+    ensures { SomeIff result (line_length file.now < length file.now) (line_length file.now) }
 {
-    for (index, byte) in file.iter().enumerate() {
-        if *byte == b'\n' {
-            return index;
-        }
-    }
-    file.len()
+    file.iter().position(|byte| *byte == b'\n')
 }
 
 // The header of a file, and the position of its first packet.
-pub fn read_header(file: &[u8]) -> Result<(Header, usize), Rejection>
+pub fn read_header(file: &[u8]) -> Result<(VideoHeader, usize), Rejection>
     ensures { HeaderRead file.now result }
 {
-    let end = first_line_length(file);
-    if end >= file.len() {
-        return Err(Rejection::BadText(file.len() as u64));
-    }
+    let end = newline(file).ok_or(Rejection::BadText(file.len() as u64))?;
     match std::str::from_utf8(&file[0..end]) {
         Ok(line) => {
             let header = text::parse_header(line)?;

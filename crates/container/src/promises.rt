@@ -10,15 +10,12 @@ pub fn read_back()
 
 pub fn cut_anywhere()
     ensures { CutAnywhere }
-{
-}
+{}
 
 pub fn one_form()
     ensures { OneForm }
-{
-}
+{}
 
 pub fn any_pieces()
     ensures { AnyPieces }
-{
-}
+{}

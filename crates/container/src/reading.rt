@@ -5,37 +5,29 @@ ghost use Rattle.container.specs.Within.{Whole, WholeAt};
 
 use crate::fault::Fault;
 use crate::packet::{PacketAt, PacketHead};
-use crate::varint::{Varint, read_varint};
-use frame::Rejection;
-
-pub(crate) const MAX_NUMBER: u64 = 1 << 62;
+use crate::varint::read_varint;
+use frame::{MAX_SEQUENCE_NUMBER, Rejection};
 
 // The packet that the bytes begin with.
 pub(crate) fn locate(bytes: &[u8]) -> Result<PacketAt, Fault>
     ensures value { result ≡ first_packet bytes.now }
     ensures within { IfOk result (λ p. Whole 0 (length bytes.now) p) }
 {
-    let Varint {
-        value: tag,
-        size: tag_size,
-    } = read_varint(bytes)?;
-    let number = tag / 2;
-    if number > MAX_NUMBER {
+    let tag = read_varint(bytes)?;
+    let number = tag.value / 2;
+    if number > MAX_SEQUENCE_NUMBER {
         return Err(Fault::Malformed);
     }
-    let Varint {
-        value: length,
-        size: length_size,
-    } = read_varint(&bytes[tag_size..])?;
-    let start = tag_size + length_size;
-    if length > (bytes.len() - start) as u64 {
+    let length = read_varint(&bytes[tag.size..])?;
+    let start = tag.size + length.size;
+    if length.value > (bytes.len() - start) as u64 {
         return Err(Fault::Cut);
     }
-    let length = length as usize;
+    let length = length.value as usize;
     Ok(PacketAt {
         head: PacketHead {
             number,
-            key: tag % 2 == 1,
+            key: tag.value % 2 == 1,
             length,
         },
         start,

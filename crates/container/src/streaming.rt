@@ -50,10 +50,8 @@ impl PacketReader {
                 self.position = self.position.saturating_add(found.end as u64);
                 Ok(Some(found.head))
             }
-            Err(fault) => match fault {
-                Fault::Cut => Ok(None),
-                Fault::Malformed => Err(Rejection::BadText(self.position)),
-            },
+            Err(Fault::Cut) => Ok(None),
+            Err(Fault::Malformed) => Err(Rejection::BadText(self.position)),
         }
     }
 

@@ -1,22 +1,31 @@
 use crate::{PacketReader, read_header, read_packet, write_header, write_packet};
-use frame::Rejection;
+use frame::{Frame, FrameHeader, Packet, Rejection, VideoHeader};
 use std::alloc::Global;
 use std::process::Abort;
 use std::test::Fail;
-use text::Header;
+
+fn packet(number: u64, key: bool, bytes: &[u8]) -> Packet<'_> {
+    Packet {
+        number,
+        frame: Frame {
+            header: FrameHeader { key },
+            bytes,
+        },
+    }
+}
 
 // A header line of 16 bytes, a key frame's packet at 16 with 200 bytes of frame, and another at 219 with none.
 fn small_file(rt: &impl Abort, heap: Global) -> Result<Vec<u8>, Fail> {
     let mut file = Vec::new(heap);
-    let header = Header {
+    let header = VideoHeader {
         across: 4,
         down: 3,
         step: 8,
     };
     write_header(header, &mut file)?;
-    let frame = [7u8; 200];
-    assert!(rt; write_packet(0, true, &frame, &mut file).is_ok());
-    assert!(rt; write_packet(1, false, &[], &mut file).is_ok());
+    let bytes = [7u8; 200];
+    assert!(rt; write_packet(packet(0, true, &bytes), &mut file).is_ok());
+    assert!(rt; write_packet(packet(1, false, &[]), &mut file).is_ok());
     Ok(file)
 }
 

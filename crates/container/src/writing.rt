@@ -1,11 +1,10 @@
 // Packets, written.
 ghost use Rattle.std.specs.Prelude.{◌≡◌, ◌^◌, ◌≤◌, ◌++◌, length, take};
-ghost use Rattle.container.specs.Container.{tag, varint};
+ghost use Rattle.container.specs.Container.{lent_packet, tag, varint};
 ghost use Rattle.container.specs.Writing.{WritesInto, Written, write_rejection};
 
-use crate::reading::MAX_NUMBER;
 use crate::varint::put_varint;
-use frame::Rejection;
+use frame::{MAX_SEQUENCE_NUMBER, Packet, Rejection};
 use text::PacketError;
 
 // The bytes before a frame's: two numbers of ten bytes at most.
@@ -28,22 +27,18 @@ fn head_bytes(number: u64, key: bool, frame_length: usize) -> HeadBytes
 }
 
 // Adds a packet to a file. Where that fails, `out` is as it was.
-pub fn write_packet(
-    number: u64,
-    key: bool,
-    bytes: &[u8],
-    out: &mut Vec<u8>,
-) -> Result<(), PacketError>
-    ensures { Written (record { number = number; key = key; bytes = bytes.now }) out.old.items result out.new.items }
+pub fn write_packet(packet: Packet<'_>, out: &mut Vec<u8>) -> Result<(), PacketError>
+    ensures { Written (lent_packet packet.entry) out.old.items result out.new.items }
 {
+    let Packet { number, frame } = packet;
     let position = out.len();
-    if number > MAX_NUMBER {
+    if number > MAX_SEQUENCE_NUMBER {
         return Err(PacketError::Rejected(Rejection::BadText(position as u64)));
     }
-    let head = head_bytes(number, key, bytes.len());
+    let head = head_bytes(number, frame.header.key, frame.bytes.len());
     let size = head.size;
     out.extend_from_slice(&head.bytes[0..size])?;
-    if out.extend_from_slice(bytes).is_err() {
+    if out.extend_from_slice(frame.bytes).is_err() {
         out.truncate(position);
         return Err(PacketError::OutOfMemory);
     }
@@ -51,18 +46,15 @@ pub fn write_packet(
 }
 
 // Writes a packet at the start of a buffer, and says how many bytes it takes. What is rejected changes nothing.
-pub fn write_packet_into(
-    number: u64,
-    key: bool,
-    bytes: &[u8],
-    out: &mut [u8],
-) -> Result<usize, Rejection>
-    ensures { WritesInto (write_rejection (record { number = number; key = key; bytes = bytes.now }) (length out.old)) (record { number = number; key = key; bytes = bytes.now }) out.old result out.new }
+pub fn write_packet_into(packet: Packet<'_>, out: &mut [u8]) -> Result<usize, Rejection>
+    ensures { WritesInto (write_rejection (lent_packet packet.entry) (length out.old)) (lent_packet packet.entry) out.old result out.new }
 {
-    if number > MAX_NUMBER {
+    let Packet { number, frame } = packet;
+    if number > MAX_SEQUENCE_NUMBER {
         return Err(Rejection::BadText(0));
     }
-    let head = head_bytes(number, key, bytes.len());
+    let bytes = frame.bytes;
+    let head = head_bytes(number, frame.header.key, bytes.len());
     let size = head.size;
     if out.len() < size || out.len() - size < bytes.len() {
         return Err(Rejection::BufferTooShort(out.len() as u64));

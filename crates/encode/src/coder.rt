@@ -3,10 +3,9 @@ use crate::packets::Packets;
 use crate::wish::Wish;
 use console::Refusal;
 use encoder::Encoder;
-use frame::Format;
+use frame::{Format, VideoHeader};
 use pictures::KeyInterval;
 use std::alloc::Global;
-use text::Header;
 
 #[derive(Drop)]
 pub struct Coder {
@@ -20,8 +19,8 @@ pub struct Coder {
 
 impl Coder {
     // Begins a video of that format.
-    pub fn new(rt: &HostRuntime, header: Header, wish: &Wish) -> Result<Coder, Refusal> {
-        let format = Format::new(header.across, header.down, header.step)?;
+    pub fn new(rt: &HostRuntime, header: VideoHeader, wish: &Wish) -> Result<Coder, Refusal> {
+        let format = Format::try_from(header)?;
         let buffer = vec![in rt.alloc(); 0u8; encoder::worst_case_size(format)]?;
         Ok(Coder {
             format,

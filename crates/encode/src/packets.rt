@@ -1,8 +1,8 @@
 // Where packets go: as text to standard output, or in binary to a video file.
 use console::{Output, Refusal};
 use encoder::Pushed;
+use frame::{Frame, FrameHeader, Packet, VideoHeader};
 use std::io::Write;
-use text::Header;
 
 #[derive(Drop)]
 pub enum Packets {
@@ -15,7 +15,7 @@ impl Packets {
     pub fn create(
         rt: &HostRuntime,
         name: &Option<String>,
-        header: Header,
+        header: VideoHeader,
     ) -> Result<Packets, Refusal> {
         let heap = rt.alloc();
         match name {
@@ -42,15 +42,22 @@ impl Packets {
         worst: u8,
     ) -> Result<(), Refusal> {
         let heap = rt.alloc();
+        let packet = Packet {
+            number: pushed.number,
+            frame: Frame {
+                header: FrameHeader { key: pushed.key },
+                bytes,
+            },
+        };
         match self {
             Packets::Text => {
-                rt.println(text::write_packet(heap, pushed.number, pushed.key, bytes)?)?;
+                rt.println(text::write_packet(heap, packet)?)?;
                 rt.println(text::write_worst(heap, worst)?)?;
             }
             Packets::Binary(output) => {
-                let mut packet = Vec::new(heap);
-                container::write_packet(pushed.number, pushed.key, bytes, &mut packet)?;
-                output.write_all(packet.as_slice())?;
+                let mut bytes = Vec::new(heap);
+                container::write_packet(packet, &mut bytes)?;
+                output.write_all(bytes.as_slice())?;
             }
         }
         Ok(())

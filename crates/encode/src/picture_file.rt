@@ -2,8 +2,8 @@
 use crate::coder::Coder;
 use crate::wish::Wish;
 use console::{Refusal, Source};
+use frame::VideoHeader;
 use pictures::{Layout, PictureError};
-use text::Header;
 
 const USUAL_STEP: u64 = 8;
 
@@ -55,7 +55,7 @@ fn code_pictures(
     layout: Layout,
     wish: &Wish,
 ) -> Result<(), Refusal> {
-    let header = Header {
+    let header = VideoHeader {
         across: pictures::block_count(layout.width()),
         down: pictures::block_count(layout.height()),
         step: wish.step.unwrap_or(USUAL_STEP),

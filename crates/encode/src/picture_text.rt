@@ -2,9 +2,8 @@
 use crate::coder::Coder;
 use crate::wish::Wish;
 use console::{Line, Refusal, Source};
-use frame::Rejection;
+use frame::{Rejection, VideoHeader};
 use std::alloc::Global;
-use text::Header;
 
 // A picture of which the first rows are read, and whether it is to be a key frame.
 #[derive(Drop)]
@@ -54,7 +53,7 @@ impl Gathered {
 }
 
 // The header line. Where there is none, the input may not have been meant as a text.
-fn read_header(heap: Global, source: &mut Source) -> Result<Header, Refusal> {
+fn read_header(heap: Global, source: &mut Source) -> Result<VideoHeader, Refusal> {
     match source.header_line(heap) {
         Err(Refusal::Rejected(rejection)) => Err(Refusal::Sentence(format!(in heap;
             "no Y4M stream and no binary PGM (P5), and as a text: {rejection}"

@@ -7,11 +7,11 @@ mod view;
 mod wish;
 
 use console::{Input, PacketSource, Refusal, Source};
-use frame::{Format, FrameHeader, Rejection};
+use frame::{Format, FrameHeader};
 use std::alloc::Global;
 use std::process::ExitCode;
 use stream::Screen;
-use text::{Header, PacketError};
+use text::PacketError;
 use view::View;
 use wish::Wish;
 
@@ -22,10 +22,6 @@ Says for each what the screen shows: `sure 3`, `unsure, 3 shown` or `unsure, non
 Below each picture stands a strip: white if it is sure, black and white squares if it is not, black if there is none.
 --rate says how many frames a second the stream has, or how many in S seconds: 10 unless it is given.";
 
-fn format_of(header: Header) -> Result<Format, Rejection> {
-    Format::new(header.across, header.down, header.step)
-}
-
 // Receives the packet that a line says.
 fn receive_line(
     heap: Global,
@@ -33,24 +29,18 @@ fn receive_line(
     line: &str,
     position: u64,
 ) -> Result<(), PacketError> {
-    let packet = match text::parse_packet(heap, line) {
-        Ok(packet) => packet,
-        Err(PacketError::Rejected(rejection)) => return Err(PacketError::Rejected(text::placed(
-            rejection, position,
-        ))),
-        Err(PacketError::OutOfMemory) => return Err(PacketError::OutOfMemory),
-    };
+    let packet = text::parse_packet(heap, line).map_err(|error| error.placed(position))?;
     let header = FrameHeader { key: packet.key };
-    match screen.receive(packet.number, header, packet.bytes.as_slice()) {
-        Ok(()) => Ok(()),
-        Err(rejection) => Err(PacketError::Rejected(text::placed(rejection, position))),
-    }
+    screen
+        .receive(packet.number, header, packet.bytes.as_slice())
+        .map_err(|rejection| text::placed(rejection, position))?;
+    Ok(())
 }
 
 // Plays packets that are lines of text.
 fn play_text(rt: &HostRuntime, source: &mut Source, wish: &Wish) -> Result<(), Refusal> {
     let heap = rt.alloc();
-    let format = format_of(source.header_line(heap)?)?;
+    let format = Format::try_from(source.header_line(heap)?)?;
     let mut screen = Screen::new(format);
     let mut view = View::new(rt, format, wish)?;
     for _ in 0..u64::MAX {
@@ -69,7 +59,7 @@ fn play_text(rt: &HostRuntime, source: &mut Source, wish: &Wish) -> Result<(), R
 // Plays the packets of a video file.
 fn play_binary(rt: &HostRuntime, source: Source, wish: &Wish) -> Result<(), Refusal> {
     let (header, mut packets) = PacketSource::open(rt.alloc(), source)?;
-    let format = format_of(header)?;
+    let format = Format::try_from(header)?;
     let mut screen = Screen::new(format);
     let mut view = View::new(rt, format, wish)?;
     for _ in 0..u64::MAX {

@@ -51,9 +51,9 @@ fn pass_binary(rt: &HostRuntime, source: Source, air: &mut Air) -> Result<(), Re
         let Some(head) = packets.next()? else {
             break;
         };
-        let mut packet = Vec::new(heap);
-        container::write_packet(head.number, head.key, packets.frame(), &mut packet)?;
-        air.pass(rt, packet)?;
+        let mut bytes = Vec::new(heap);
+        container::write_packet(head.with_bytes(packets.frame()), &mut bytes)?;
+        air.pass(rt, bytes)?;
     }
     Ok(())
 }

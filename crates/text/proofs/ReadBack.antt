@@ -7,7 +7,7 @@ use Rattle.std.specs.Char.{is_ascii_digit}
 use Rattle.std.specs.List.{AllByRecursion}
 use Rattle.std.specs.Str.{all_ascii_digits, bytes_eq}
 use Rattle.text.proofs.Cutting.{at_byte, at_end, at_space}
-use Rattle.text.specs.declared.forms.Header.{Header}
+use Rattle.frame.specs.declared.header.VideoHeader.{VideoHeader}
 use Rattle.text.specs.Line.{Words, end, word, closed, words, words_from, value, value_after, number_of, next_is}
 use Rattle.text.specs.Promise.{Plain}
 use Rattle.text.specs.Text.{PacketFields, bytes_to_end, header_of, header_text, header_words, line_of, packet_of, packet_text, packet_words, pixels_of, row_of, row_text, spaced, worst_of, worst_text}
@@ -92,7 +92,7 @@ not_key (c ∷ cs) h =
     and_left (eqb c 107) _ (ne_eqb c 107 (λ e. omega arith))
 
 -- THE FORMS
-pub header_back : (h : Header) → h.across < 2 ^ 64 → h.down < 2 ^ 64 → h.step < 2 ^ 64 → header_of (header_text h) ≡ Ok h
+pub header_back : (h : VideoHeader) → h.across < 2 ^ 64 → h.down < 2 ^ 64 → h.step < 2 ^ 64 → header_of (header_text h) ≡ Ok h
 header_back h a d s =
     let plain : AllByRecursion Plain (header_words h) =
     (plain_keyword _ _ refl, (plain_number _ a, (plain_number _ d, (plain_keyword _ _ refl, (plain_number _ s, tt))))) in

@@ -5,10 +5,12 @@ use Rattle.frame.specs.Show.{FormatSays}
 use Rattle.frame.specs.declared.format.Format.{Format}
 use Rattle.frame.specs.declared.rejection.Rejection.{Rejection}
 use Rattle.frame.specs.declared.rejection.Rejection.TheVariants.{BadText, BlockCount, BufferTooShort, PacketCut, PictureLength, SourceLength, StepRange}
-use Rattle.text.specs.declared.forms.Header.{Header}
+use Rattle.frame.specs.declared.header.VideoHeader.{VideoHeader}
+use Rattle.text.specs.declared.error.PacketError.{PacketError}
+use Rattle.text.specs.declared.error.PacketError.TheVariants.{Rejected, OutOfMemory}
 
 -- a line that says no header is rejected as such, and else the format if it is none
-abbrev pub FormatLine : Result Header Rejection → Result Format Rejection → Type 0
+abbrev pub FormatLine : Result VideoHeader Rejection → Result Format Rejection → Type 0
 FormatLine (Err e) r = r ≡ Err e
 FormatLine (Ok h) r =
     FormatSays (format_rejection h.across h.down h.step) (record { across = h.across; down = h.down; step = h.step }) r
@@ -22,3 +24,8 @@ placed_at offset (PictureLength p) = PictureLength p
 placed_at offset (SourceLength n) = SourceLength n
 placed_at offset (BufferTooShort n) = BufferTooShort n
 placed_at offset (PacketCut n) = PacketCut n
+
+-- the same of the rejection in an error
+abbrev pub error_placed_at : (offset : ℕ) → PacketError → PacketError
+error_placed_at offset (Rejected e) = Rejected (placed_at offset e)
+error_placed_at offset OutOfMemory = OutOfMemory

@@ -2,14 +2,14 @@
 use Rattle.std.specs.Prelude.{◌≡◌, ℕ, ◌+◌, ◌-◌, ◌^◌, ◌<◌, ◌≤◌, true, false, List, [], ◌∷◌, ◌++◌, length, replicate, Some, None, Ok, Err, codes, ◌≢◌}
 use Rattle.frame.specs.declared.rejection.Rejection.TheVariants.{BadText}
 use Rattle.std.specs.List.{AllByRecursion}
-use Rattle.text.specs.declared.forms.Header.{Header}
+use Rattle.frame.specs.declared.header.VideoHeader.{VideoHeader}
 use Rattle.text.specs.Line.{Words, end, word, words}
 use Rattle.text.specs.Text.{PacketFields, header_of, header_text, packet_of, packet_text, row_of, row_text, sure_text, unsure_text, worst_of, worst_text}
 
 -- WHAT IS WRITTEN READS BACK AS THE SAME VALUES, since the words of a line are those that it was written from,
 -- and the digits of a number mean that number.
 pub record ReadsBack : Type 0 where
-  pub header : (h : Header) → h.across < 2 ^ 64 → h.down < 2 ^ 64 → h.step < 2 ^ 64 → header_of (header_text h) ≡ Ok h
+  pub header : (h : VideoHeader) → h.across < 2 ^ 64 → h.down < 2 ^ 64 → h.step < 2 ^ 64 → header_of (header_text h) ≡ Ok h
   pub row : (pixels : List ℕ) → AllByRecursion (λ p. p < 256) pixels → row_of (length pixels) (row_text pixels) ≡ Ok pixels
   pub packet : (p : PacketFields) → p.number ≤ 2 ^ 62 → AllByRecursion (λ b. b < 256) p.bytes → packet_of (packet_text p) ≡ Ok p
   pub worst : (distance : ℕ) → distance < 256 → worst_of (worst_text distance) ≡ Ok distance

@@ -1,10 +1,11 @@
 -- The text forms: what a line of each form means, and the line that is written. Assumes nothing: these are definitions.
 use Rattle.std.specs.Prelude.{◌≡◌, ℕ, zero, suc, ◌-◌, ◌^◌, Bool, cond, List, [], ◌∷◌, ◌++◌, map, is_ok, Some, None, Ok, Err, vec_items, codes, decimal, Option, Result}
+use Rattle.frame.specs.declared.header.VideoHeader.{VideoHeader}
+use Rattle.frame.specs.declared.packet.Packet as lent
 use Rattle.frame.specs.declared.rejection.Rejection.{Rejection}
 use Rattle.text.specs.declared.error.PacketError.{PacketError}
 use Rattle.text.specs.declared.error.PacketError.TheVariants.{Rejected, OutOfMemory}
-use Rattle.text.specs.declared.forms.Header.{Header}
-use Rattle.text.specs.declared.forms.Packet.{Packet}
+use Rattle.text.specs.declared.packet.Packet.{Packet}
 use Rattle.text.specs.Line.{Words, end, word, words, rest, next_is, next_keyword, next_number, at_end, no_more}
 
 -- one step after another, up to the first that rejects
@@ -22,7 +23,7 @@ line_of [] = []
 line_of (w ∷ ws) = w ++ spaced ws
 
 -- THE HEADER
-abbrev pub header_of : List ℕ → Result Header Rejection
+abbrev pub header_of : List ℕ → Result VideoHeader Rejection
 header_of line =
     then (next_keyword (codes "size") (words line)) λ size.
     then (next_number (2 ^ 64 - 1) size.1) λ across.
@@ -32,10 +33,10 @@ header_of line =
     then (no_more step.1) λ _.
     Ok (record { across = across.0; down = down.0; step = step.0 })
 
-abbrev pub header_words : Header → List (List ℕ)
+abbrev pub header_words : VideoHeader → List (List ℕ)
 header_words h = codes "size" ∷ (decimal h.across ∷ (decimal h.down ∷ (codes "step" ∷ (decimal h.step ∷ []))))
 
-abbrev pub header_text : Header → List ℕ
+abbrev pub header_text : VideoHeader → List ℕ
 header_text h = line_of (header_words h)
 
 -- A ROW of so many pixels
@@ -65,6 +66,9 @@ pub record PacketFields : Type 0 where
 
 abbrev pub fields : Packet → PacketFields
 fields p = record { number = p.number; key = p.key; bytes = vec_items p.bytes }
+
+abbrev pub lent_fields : lent.Packet → PacketFields
+lent_fields p = record { number = p.number; key = p.frame.header.key; bytes = p.frame.bytes.now }
 
 unfoldable pub bytes_to_end : Words → Result (List ℕ) Rejection
 bytes_to_end (end n) = Ok []

@@ -2,9 +2,9 @@
 #![tactic(auto)]
 
 mod error;
-mod forms;
 mod line;
 mod number;
+mod packet;
 mod parsing;
 mod placing;
 mod promises;
@@ -12,7 +12,7 @@ mod reader;
 mod writing;
 
 pub use error::PacketError;
-pub use forms::{Header, Packet};
+pub use packet::Packet;
 pub use parsing::{
     is_blank_line, is_key_line, is_worst_line, parse_header, parse_packet, parse_row, parse_worst,
 };

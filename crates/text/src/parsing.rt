@@ -4,14 +4,12 @@ ghost use Rattle.text.specs.Line.{left};
 ghost use Rattle.text.specs.Text.{Reads, blank_line, bytes_to_end, fields, header_of, key_line, outcome, packet_of, pixels_of, row_after, row_of, worst_line, worst_of};
 
 use crate::error::PacketError;
-use crate::forms::{Header, Packet};
+use crate::packet::Packet;
 use crate::reader::LineReader;
-use frame::Rejection;
+use frame::{MAX_SEQUENCE_NUMBER, Rejection, VideoHeader};
 use std::alloc::Global;
 
-const MAX_SEQUENCE_NUMBER: u64 = 1 << 62;
-
-pub fn parse_header(line: &str) -> Result<Header, Rejection>
+pub fn parse_header(line: &str) -> Result<VideoHeader, Rejection>
     ensures { result ≡ header_of line.now }
 {
     let mut words = LineReader::new(line);
@@ -21,7 +19,7 @@ pub fn parse_header(line: &str) -> Result<Header, Rejection>
     words.keyword("step")?;
     let step = words.number(u64::MAX)?;
     words.end()?;
-    Ok(Header { across, down, step })
+    Ok(VideoHeader { across, down, step })
 }
 
 // Fills the row with as many numbers. The line is checked first, since one that is rejected leaves the row as it was.

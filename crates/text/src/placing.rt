@@ -1,8 +1,9 @@
 // What programs that read a text line by line need besides the lines.
-ghost use Rattle.text.specs.Placing.{FormatLine, placed_at};
+ghost use Rattle.text.specs.Placing.{FormatLine, error_placed_at, placed_at};
 ghost use Rattle.text.specs.Text.{header_of};
 ghost use Rattle.std.specs.Prelude.{◌≡◌};
 
+use crate::error::PacketError;
 use crate::parsing::parse_header;
 use frame::{Format, Rejection};
 
@@ -10,10 +11,7 @@ use frame::{Format, Rejection};
 pub fn parse_format(line: &str) -> Result<Format, Rejection>
     ensures { FormatLine (header_of line.now) result }
 {
-    match parse_header(line) {
-        Ok(header) => Format::new(header.across, header.down, header.step),
-        Err(rejection) => Err(rejection),
-    }
+    Format::try_from(parse_header(line)?)
 }
 
 // A rejection whose position in a line is made one in the text, where the line begins at that offset.
@@ -23,5 +21,17 @@ pub fn placed(rejection: Rejection, offset: u64) -> Rejection
     match rejection {
         Rejection::BadText(position) => Rejection::BadText(position.saturating_add(offset)),
         other => other,
+    }
+}
+
+impl PacketError {
+    // The same of a rejection that a packet's line is the reason of.
+    pub fn placed(self, offset: u64) -> PacketError
+        ensures { result ≡ error_placed_at offset self }
+    {
+        match self {
+            PacketError::Rejected(rejection) => PacketError::Rejected(placed(rejection, offset)),
+            PacketError::OutOfMemory => PacketError::OutOfMemory,
+        }
     }
 }

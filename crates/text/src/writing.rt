@@ -1,14 +1,14 @@
 // The line that says a value.
 ghost use Rattle.std.specs.Prelude.{◌≡◌, ◌++◌, map, IfOk, string_bytes, decimal, OnOk};
-ghost use Rattle.text.specs.Text.{header_text, packet_text, row_text, spaced, sure_text, unsure_text, worst_text};
+ghost use Rattle.text.specs.Text.{header_text, lent_fields, packet_text, row_text, spaced, sure_text, unsure_text, worst_text};
 
-use crate::forms::Header;
+use frame::{Packet, VideoHeader};
 use std::alloc::{AllocError, Global};
 
-pub fn write_header(heap: Global, header: Header) -> Result<String, AllocError>
+pub fn write_header(heap: Global, header: VideoHeader) -> Result<String, AllocError>
     ensures { IfOk result (λ line. string_bytes line ≡ header_text header) }
 {
-    let Header { across, down, step } = header;
+    let VideoHeader { across, down, step } = header;
     format!(in heap; "size {across} {down} step {step}")
 }
 
@@ -23,19 +23,15 @@ pub fn write_row(heap: Global, row: &[u8]) -> Result<String, AllocError>
     Ok(line)
 }
 
-pub fn write_packet(
-    heap: Global,
-    number: u64,
-    key: bool,
-    bytes: &[u8],
-) -> Result<String, AllocError>
-    ensures { IfOk result (λ line. string_bytes line ≡ packet_text (record { number = number; key = key; bytes = bytes.now })) }
+pub fn write_packet(heap: Global, packet: Packet<'_>) -> Result<String, AllocError>
+    ensures { IfOk result (λ line. string_bytes line ≡ packet_text (lent_fields packet.entry)) }
 {
+    let Packet { number, frame } = packet;
     let mut line = number.to_string(heap)?;
-    if key {
+    if frame.header.key {
         line.push_str(" key")?;
     }
-    push_numbers(heap, &mut line, bytes)?;
+    push_numbers(heap, &mut line, frame.bytes)?;
     Ok(line)
 }
 

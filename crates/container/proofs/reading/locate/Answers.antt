@@ -9,8 +9,8 @@ returns-in_err-tag c =
     let p = err_from_is_err_and c.from_residual.result c.from_residual.ensures.1 in
     rw (p.1, p.2) (record { value = sym (tag_fault c.args.bytes.now (sym c.in_err-tag.ensures.value)); within = tt })
 
-pub returns-then-number-gt-MAX_NUMBER : goal.returns-then-number-gt-MAX_NUMBER
-returns-then-number-gt-MAX_NUMBER c = record {
+pub returns-then-number-gt-MAX_SEQUENCE_NUMBER : goal.returns-then-number-gt-MAX_SEQUENCE_NUMBER
+returns-then-number-gt-MAX_SEQUENCE_NUMBER c = record {
   value = sym (number_fault c.args.bytes.now _ (sym c.in_ok-tag.ensures.value) (omega arith));
   within = tt;
 }

@@ -1,5 +1,5 @@
 use Rattle.std.proofs.Common.{vec_items, ◌∙◌, arith}
-use Rattle.container.specs.Container.{Packet}
+use Rattle.container.specs.Container.{Packet, lent_packet}
 use Rattle.container.proofs.Placing.{at_file_end, cut_back}
 use Rattle.container.proofs.writing.write_packet.Goals as goal
 
@@ -11,7 +11,7 @@ returns-then-is_err c =
 
 pub returns : goal.returns
 returns c =
-    let p : Packet = record { number = c.args.number; key = c.args.key; bytes = c.args.bytes.now } in
+    let p : Packet = lent_packet c.args.packet in
     let two = rw c.if-is_err.ensures.negation at c.extend_from_slice-2.ensures.items in (
       omega arith,
       at_file_end p c.head_bytes-head.result.bytes c.head_bytes-head.result.size c.head_bytes-head.ensures.bytes

@@ -1,12 +1,12 @@
 use Rattle.std.proofs.Common.{arith}
-use Rattle.container.specs.Container.{Packet}
+use Rattle.container.specs.Container.{Packet, lent_packet}
 use Rattle.container.proofs.Placing.{at_buffer_start, fitting, packet_length, too_short}
 use Rattle.container.proofs.writing.write_packet_into.Goals as goal
 use Rattle.container.proofs.writing.write_packet_into.Goals.{then-out-size-via-then-out-size, then-out-size-via-else-out-size+then-out-size-2}
 
 pub returns-then-out-size : goal.returns-then-out-size
 returns-then-out-size c =
-    let p : Packet = record { number = c.args.number; key = c.args.key; bytes = c.args.bytes.now } in
+    let p : Packet = lent_packet c.args.packet in
     let l = packet_length p c.head_bytes-head.result.bytes c.head_bytes-head.result.size c.head_bytes-head.ensures.bytes (omega arith) in
     too_short p c.args.out.now (omega arith) (elim c.then-out-size.branch [
       | then-out-size-via-then-out-size w ↦ omega (arith, w.if-out-size.true)
@@ -15,7 +15,7 @@ returns-then-out-size c =
 
 pub returns : goal.returns
 returns c =
-    let p : Packet = record { number = c.args.number; key = c.args.key; bytes = c.args.bytes.now } in
+    let p : Packet = lent_packet c.args.packet in
     let head = c.head_bytes-head.result.bytes in
     let size = c.head_bytes-head.result.size in
     let l = packet_length p head size c.head_bytes-head.ensures.bytes (omega arith) in

@@ -14,12 +14,12 @@ returns-in-Ok c =
       frame = tt;
     }
 
-pub returns-in-Cut : goal.returns-in-Cut
-returns-in-Cut c =
-    let is = pending_read (vec_items c.args.self.now.held) c.deref.result.now c.args.self.now.taken c.deref.ensures.value c.in-Err.ensures.value in
-    record { packet = rw (is, c.in-Cut.is); state = rw is; took = tt; frame = refl }
+pub returns-in-Err-Cut : goal.returns-in-Err-Cut
+returns-in-Err-Cut c =
+    let is = pending_read (vec_items c.args.self.now.held) c.deref.result.now c.args.self.now.taken c.deref.ensures.value c.in-Err-Cut.ensures.value in
+    record { packet = rw (is, c.in-Err-Cut.field-0-is); state = rw is; took = tt; frame = refl }
 
-pub returns-in-Malformed : goal.returns-in-Malformed
-returns-in-Malformed c =
-    let is = pending_read (vec_items c.args.self.now.held) c.deref.result.now c.args.self.now.taken c.deref.ensures.value c.in-Err.ensures.value in
-    record { packet = rw (is, c.in-Malformed.is); state = rw is; took = tt; frame = refl }
+pub returns-in-Err-Malformed : goal.returns-in-Err-Malformed
+returns-in-Err-Malformed c =
+    let is = pending_read (vec_items c.args.self.now.held) c.deref.result.now c.args.self.now.taken c.deref.ensures.value c.in-Err-Malformed.ensures.value in
+    record { packet = rw (is, c.in-Err-Malformed.field-0-is); state = rw is; took = tt; frame = refl }
