@@ -1,5 +1,5 @@
 -- The first line of a file.
-use Rattle.std.proofs.Common.{◌≡◌, ℕ, suc, ◌+◌, ◌%◌, ◌^◌, ◌<◌, List, [], ◌∷◌, ◌++◌, length, take, Ok, IsUtf8, decimal, Result, refl, ap, ◌∙◌, arith, rules}
+use Rattle.std.proofs.Common.{◌≡◌, ℕ, ◌+◌, ◌%◌, ◌^◌, ◌<◌, List, [], ◌∷◌, ◌++◌, length, take, Ok, IsUtf8, decimal, Result, refl, ap, ◌∙◌, arith, rules}
 use Rattle.container.specs.HeaderLine.{HeaderRead, first_line, header_line, line_length}
 use Rattle.frame.specs.declared.rejection.Rejection.{Rejection}
 use Rattle.std.proofs.ByRecursion.{IsAscii-from_all, All-append, All-push, All-weaker}

@@ -1,5 +1,5 @@
 -- A line of text: words between spaces, each with its offset. Assumes nothing: these are definitions.
-use Rattle.std.specs.Prelude.{ℕ, suc, ◌+◌, ◌-◌, ◌*◌, Bool, true, false, cond, ◌&&◌, List, [], ◌∷◌, ◌++◌, length, drop, Some, None, Ok, Err, Option, Result, ◌==◌, nat_le, nat_lt}
+use Rattle.std.specs.Prelude.{ℕ, suc, ◌+◌, ◌-◌, ◌*◌, Bool, true, false, cond, ◌&&◌, List, [], ◌∷◌, ◌++◌, length, Some, None, Ok, Err, Option, Result, ◌==◌, nat_le, nat_lt}
 use Rattle.frame.specs.declared.rejection.Rejection.{Rejection}
 use Rattle.frame.specs.declared.rejection.Rejection.TheVariants.{BadText}
 use Rattle.std.specs.Str.{all_ascii_digits, bytes_eq}
@@ -26,7 +26,7 @@ words line = words_from [] 0 line
 
 -- the words that are still to be read
 abbrev pub left : LineReader → Words
-left reader = words_from [] reader.offset (drop reader.offset reader.line.now)
+left reader = words_from [] (reader.end - length reader.rest.now) reader.rest.now
 
 -- the next word: its bytes, of which there are none at the end, and its position
 abbrev pub bytes_of : Words → List ℕ

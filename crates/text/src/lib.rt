@@ -12,6 +12,7 @@ mod reader;
 mod writing;
 
 pub use error::PacketError;
+pub use number::parse_number;
 pub use packet::Packet;
 pub use parsing::{
     is_blank_line, is_key_line, is_worst_line, parse_header, parse_packet, parse_row, parse_worst,

@@ -1,5 +1,5 @@
 // The steps of a reader: a number, a keyword, the end of the line. What is rejected is rejected at the word's position.
-ghost use Rattle.std.specs.Prelude.{◌≡◌, ◌<◌, length, if◌then◌else◌, ◌≢◌, slice_index};
+ghost use Rattle.std.specs.Prelude.{◌≡◌, if◌then◌else◌};
 ghost use Rattle.text.specs.Line.{answered, at_end, bytes_of, left, next_is, next_keyword, next_number, no_more, position, rest, words};
 
 use crate::number::parse_number;
@@ -11,35 +11,23 @@ impl<'a> LineReader<'a> {
         ensures { left result ≡ words line.now }
     {
         LineReader {
-            line: line.as_bytes(),
-            offset: 0,
-        }
-    }
-
-    // Goes on to where the next word begins or the line ends.
-    fn skip_spaces(&mut self)
-        ensures same { left self.new ≡ left self.old }
-        ensures stops { self.new.offset < length self.new.line.now → slice_index self.new.line.now self.new.offset ≢ 32 }
-    {
-        while self.offset < self.line.len() && self.line[self.offset] == b' ' {
-            self.offset += 1;
+            rest: line,
+            end: line.len(),
         }
     }
 
     // The next word, which is empty at the end of the line.
     fn next_word(&mut self) -> Word<'a>
         ensures position { result.position ≡ position (left self.old) }
-        ensures bytes { result.bytes.now ≡ bytes_of (left self.old) }
+        ensures bytes { result.text.now ≡ bytes_of (left self.old) }
         ensures rest { left self.new ≡ rest (left self.old) }
     {
-        self.skip_spaces();
-        let start = self.offset;
-        while self.offset < self.line.len() && self.line[self.offset] != b' ' {
-            self.offset += 1;
-        }
+        let line = self.rest.trim_start_matches(' ');
+        let (text, rest) = line.split_once(' ').unwrap_or((line, ""));
+        self.rest = rest;
         Word {
-            position: start as u64,
-            bytes: &self.line[start..self.offset],
+            position: (self.end - line.len()) as u64,
+            text,
         }
     }
 
@@ -48,10 +36,7 @@ impl<'a> LineReader<'a> {
         ensures { next_number limit (left self.old) ≡ answered result (left self.new) }
     {
         let word = self.next_word();
-        match parse_number(word.bytes, limit) {
-            Some(number) => Ok(number),
-            None => Err(Rejection::BadText(word.position)),
-        }
+        parse_number(word.text.as_bytes(), limit).ok_or(Rejection::BadText(word.position))
     }
 
     // The next word as a pixel, or as one of a frame's bytes.
@@ -66,7 +51,7 @@ impl<'a> LineReader<'a> {
         ensures { next_keyword keyword.now (left self.old) ≡ answered result (left self.new) }
     {
         let word = self.next_word();
-        if word.bytes == keyword.as_bytes() {
+        if word.text == keyword {
             Ok(())
         } else {
             Err(Rejection::BadText(word.position))
@@ -89,7 +74,7 @@ impl<'a> LineReader<'a> {
     pub(crate) fn is_done(mut self) -> bool
         ensures { result ≡ at_end (left self.entry) }
     {
-        self.next_word().bytes.is_empty()
+        self.next_word().text.is_empty()
     }
 
     // Rejects a word too many.
@@ -97,7 +82,7 @@ impl<'a> LineReader<'a> {
         ensures { result ≡ no_more (left self.entry) }
     {
         let word = self.next_word();
-        if word.bytes.is_empty() {
+        if word.text.is_empty() {
             Ok(())
         } else {
             Err(Rejection::BadText(word.position))
