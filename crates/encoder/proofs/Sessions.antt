@@ -1,5 +1,5 @@
 -- An encoder made, and after one frame more: it goes on from the picture that its frames show.
-use Rattle.std.proofs.Common.{◌≡◌, ℕ, zero, suc, ◌+◌, ◌*◌, ◌/◌, ◌^◌, ◌<◌, ◌≤◌, Bool, ◌||◌, eqb, List, ◌++◌, length, get_or, take, drop, replicate, Some, None, Ok, Err, Option, Result, sym, refl, ap, ◌∙◌, add-one, arith, length-take-le, take_at}
+use Rattle.std.proofs.Common.{◌≡◌, ℕ, zero, suc, ◌+◌, ◌*◌, ◌/◌, ◌^◌, ◌<◌, ◌≤◌, Bool, ◌||◌, eqb, List, ◌++◌, length, get_or, take, drop, replicate, Some, None, Ok, Err, Option, Result, refl, ap, ◌∙◌, add-one, arith, length-take-le, take_at}
 use Rattle.std.proofs.lemmas.Simd.{length-replicate}
 use Rattle.std.proofs.lemmas.Bool.{eq-eqb, le-leb, lt-leb, or_right}
 use Rattle.block.specs.Picture.{Picture, black, picture_in}
@@ -88,7 +88,7 @@ module _ (e : Encoder) (source : List ℕ) (asked key : Bool) (buffer buffer₁ 
       go None h = (h.0, h.1, refl, h.2, rw (← is_key, ← whole) h.4)
       go (Some y) h = (cc, refl, h.1)
 
-  module _ (copied : List ℕ) (copy : copied ≡ take lent (part ++ drop lent scratch)) (k : ℕ) where
+  module _ (copied : List ℕ) (copy : copied ≡ part) (k : ℕ) where
     -- the encoder when the scratch picture is copied to the part that was lent
     abbrev gone_on : Encoder
     gone_on = record { format = e.format; next = e.next + 1; pixels = copied ++ drop lent e.pixels }
@@ -99,9 +99,7 @@ module _ (e : Encoder) (source : List ℕ) (asked key : Bool) (buffer buffer₁ 
     module _ (coded : Coded f key source (take lent e.pixels) bytes part) where
       shown : encoder_pixels gone_on ≡ part
       shown =
-          let long : length part ≡ lent = coded.holds.long ∙ sym whole in
-          let same : copied ≡ part = copy ∙ take_at part (drop lent scratch) lent long in
-          rw same (take_at part (drop lent e.pixels) (16 * block_count f) coded.holds.long)
+          rw copy (take_at part (drop lent e.pixels) (16 * block_count f) coded.holds.long)
 
       whole_coded : Coded f key source (encoder_pixels e) bytes (encoder_pixels gone_on)
       whole_coded = rw (shown, ← whole) coded

@@ -14,12 +14,12 @@ pub struct Encoder {
     format: Format,
     // The sequence number of the next frame.
     next: u64,
-    // The first of them are the reference picture: there is room for one of any format.
+    // The first of them are the reference picture. There is no heap in a camera, so there is room for one of any format.
     pixels: [u8; 3584],
 }
 
 // A frame in the buffer: its sequence number, whether it is a key frame, and how many bytes it has.
-#[derive(Clone, Copy)]
+#[derive(Clone, Copy, PartialEq, Eq, Debug)]
 pub struct Pushed {
     pub number: u64,
     pub key: bool,
@@ -63,15 +63,9 @@ impl Encoder {
         asked || self.next == 0
     }
 
-    // Codes a source by way of a scratch picture that is large enough for every format.
-    fn push_with(
-        &mut self,
-        source: &[u8],
-        key: bool,
-        buffer: &mut [u8],
-        scratch: &mut [u8],
-    ) -> Result<Pushed, Rejection>
-        requires { length scratch.old ≡ 3584 }
+    // Codes a source as the next frame, a key frame if asked for or the first, into the buffer.
+    // The encoder then goes on from the picture that the frame shows. What is rejected changes nothing.
+    pub fn push(&mut self, source: &[u8], key: bool, buffer: &mut [u8]) -> Result<Pushed, Rejection>
         ensures { PushSays (push_rejection self.old source.now) self.old source.now key buffer.old result self.new buffer.new }
     {
         if self.next > MAX_SEQUENCE_NUMBER {
@@ -87,8 +81,10 @@ impl Encoder {
             source,
             reference: &self.pixels[..pixels],
         };
-        let length = code_frame(input, buffer, &mut scratch[..pixels])?;
-        self.pixels[..pixels].copy_from_slice(&scratch[..pixels]);
+        let mut scratch = [0; 3584];
+        let picture = &mut scratch[..pixels];
+        let length = code_frame(input, buffer, picture)?;
+        self.pixels[..pixels].copy_from_slice(picture);
         let number = self.next;
         self.next += 1;
         Ok(Pushed {
@@ -96,14 +92,5 @@ impl Encoder {
             key: header.key,
             length,
         })
-    }
-
-    // Codes a source as the next frame, a key frame if asked for or the first, into the buffer.
-    // The encoder then goes on from the picture that the frame shows. What is rejected changes nothing.
-    pub fn push(&mut self, source: &[u8], key: bool, buffer: &mut [u8]) -> Result<Pushed, Rejection>
-        ensures { PushSays (push_rejection self.old source.now) self.old source.now key buffer.old result self.new buffer.new }
-    {
-        let mut scratch = [0u8; 3584];
-        self.push_with(source, key, buffer, &mut scratch)
     }
 }

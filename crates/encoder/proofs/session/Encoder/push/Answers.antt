@@ -1,7 +1,7 @@
 use Rattle.std.proofs.Common.{arith}
 use Rattle.std.proofs.lemmas.Result.{err_from_is_err_and}
 use Rattle.encoder.proofs.Sessions.{number_rejected, push_done, push_rejected}
-use Rattle.encoder.proofs.session.Encoder.push_with.Goals as goal
+use Rattle.encoder.proofs.session.Encoder.push.Goals as goal
 
 pub returns-then-self-gt-MAX_SEQUENCE_NUMBER : goal.returns-then-self-gt-MAX_SEQUENCE_NUMBER
 returns-then-self-gt-MAX_SEQUENCE_NUMBER c = number_rejected c.args.self.now c.args.source.now c.args.key c.args.buffer.now c.if-self-gt-MAX_SEQUENCE_NUMBER.true
@@ -11,13 +11,13 @@ returns-in_err-length c =
     let p = err_from_is_err_and c.from_residual.result c.from_residual.ensures.1 in
     rw (p.1, p.2)
     (push_rejected c.args.self.now c.args.source.now c.args.key c.next_is_key.result c.args.buffer.now c.code_frame.new.buffer
-    c.args.scratch.now c.code_frame.new.output c.pixel_count-pixels.result
+    _ c.code_frame.new.output c.pixel_count-pixels.result
     c.next_is_key.ensures c.if-self-gt-MAX_SEQUENCE_NUMBER.false c.pixel_count-pixels.ensures (omega arith) (omega arith)
     c.in_err-length.field-0.0 c.in_err-length.ensures)
 
 pub returns : goal.returns
 returns c =
     push_done c.args.self.now c.args.source.now c.args.key c.next_is_key.result c.args.buffer.now c.code_frame.new.buffer
-    c.args.scratch.now c.code_frame.new.output c.pixel_count-pixels.result
+    _ c.code_frame.new.output c.pixel_count-pixels.result
     c.next_is_key.ensures c.if-self-gt-MAX_SEQUENCE_NUMBER.false c.pixel_count-pixels.ensures (omega arith) (omega arith)
     c.copy_from_slice.new.self c.copy_from_slice.ensures.after c.in_ok-length.length c.in_ok-length.ensures
