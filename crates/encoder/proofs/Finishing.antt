@@ -1,5 +1,7 @@
 -- A frame that was encoded: its bytes are read back as the blocks that were chosen.
-use Rattle.std.proofs.Common.{◌≡◌, ℕ, ◌*◌, ◌/◌, ◌%◌, ◌<◌, ◌≤◌, Bool, List, length, sym, ap, ◌∙◌, subst, mul_comm, arith}
+use Rattle.std.proofs.Common.{◌≡◌, ℕ, ◌*◌, ◌/◌, ◌%◌, ◌<◌, ◌≤◌, Bool, List, ◌++◌, length, take, drop, None, Ok, Err, sym, refl, ap, ◌∙◌, subst, mul_comm, arith, rules}
+use Rattle.std.proofs.lemmas.List.{places, take_at}
+use Rattle.std.proofs.lemmas.Slice.{overwrites}
 use Rattle.bits.specs.Bits.{bits_of}
 use Rattle.range_coder.specs.Code.{Finished}
 use Rattle.range_coder.specs.Decisions.{Decision, ReaderState, after, start_reader}
@@ -8,9 +10,10 @@ use Rattle.block.specs.Prediction.{predictable}
 use Rattle.block.specs.Transform.{distance}
 use Rattle.block.specs.declared.block.Block.{Block}
 use Rattle.frame.specs.Frame.{Format, block_at, block_count, past, plane_size, shows, valid}
+use Rattle.frame.specs.declared.rejection.Rejection.TheVariants.{BufferTooShort}
 use Rattle.frame.specs.Saying.{frame_decisions}
 use Rattle.frame.proofs.Blocks.{every_from, picture_of_same, pixel_block_below}
-use Rattle.encoder.specs.Code.{Coded, worst_case}
+use Rattle.encoder.specs.Code.{Coded, InputCoded, input_rejection, worst_case}
 use Rattle.encoder.specs.Progress.{FrameEncoded, Progress, input_format, reference_picture, source_picture}
 use Rattle.encoder.specs.declared.input.FrameInput.{FrameInput}
 use Rattle.encoder.proofs.Rows.{counted}
@@ -57,3 +60,24 @@ module _ (input : FrameInput) (w : Writer) (pixels : List ℕ) (long : length pi
     last = fin.last;
     short = fits;
   }
+
+  module _ (buffer output : List ℕ) (none : input_rejection input output ≡ None) where
+    -- they are delivered, or the buffer is too short for them
+    pub too_short : length buffer < length bytes → InputCoded (input_rejection input output) input buffer output (Err (BufferTooShort (length buffer))) buffer output
+    too_short short =
+        rw none
+        (refl, omega (arith, fits), refl, refl, record { bytes = bytes; picture = pixels; coded = coded; longer = short })
+
+    pub delivered : length bytes ≤ length buffer → (front shown : List ℕ) → front ≡ bytes → shown ≡ pixels
+        → InputCoded (input_rejection input output) input buffer output (Ok (length bytes)) (front ++ drop (length bytes) buffer) shown
+    delivered room front shown copied drawn =
+        let Shows : List ℕ → List ℕ → Type 0 = Coded f key input.source.now input.reference.now in
+        let taken : take (length bytes) (front ++ drop (length bytes) buffer) ≡ bytes
+        = ap (λ xs. take (length bytes) (xs ++ drop (length bytes) buffer)) copied ∙ take_at bytes (drop (length bytes) buffer) _ refl in
+        let long : length front ≡ length bytes = ap length copied in
+        rw none (
+          room,
+          search (rules, overwrites),
+          (λ i l. search (rules, places)),
+          subst (λ xs. Shows xs shown) (sym taken) (subst (Shows bytes) (sym drawn) coded),
+        )

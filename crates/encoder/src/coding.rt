@@ -28,29 +28,6 @@ impl FrameInput<'_> {
             Err(Rejection::SourceLength(self.source.len() as u64))
         }
     }
-
-    // Copies the frame, which was encoded, out of the writer and the scratch picture, if the buffer is long enough.
-    fn deliver(
-        &self,
-        writer: &Writer,
-        picture: &[u8],
-        buffer: &mut [u8],
-        output: &mut [u8],
-    ) -> Result<usize, Rejection>
-        requires encoded { FrameEncoded self.now (format_of self.now.format).down writer.now picture.now }
-        requires picture { length picture.now ≡ 16 * block_count (format_of self.now.format) }
-        requires output { length output.old ≡ 16 * block_count (format_of self.now.format) }
-        ensures { InputCoded None self.now buffer.old output.old result buffer.new output.new }
-    {
-        let bytes = writer.finish();
-        let length = bytes.len();
-        if length > buffer.len() {
-            return Err(Rejection::BufferTooShort(buffer.len() as u64));
-        }
-        buffer[0..length].copy_from_slice(bytes);
-        output.copy_from_slice(picture);
-        Ok(length)
-    }
 }
 
 // Codes a source picture as a frame of a format, made from the reference picture unless it is a key frame.
@@ -68,7 +45,14 @@ pub fn code_frame(
     let mut scratch = [0u8; 3584];
     let picture = &mut scratch[..input.format.pixel_count()];
     input.encode(&mut writer, picture);
-    input.deliver(&writer, picture, buffer, output)
+    let bytes = writer.finish();
+    let length = bytes.len();
+    if length > buffer.len() {
+        return Err(Rejection::BufferTooShort(buffer.len() as u64));
+    }
+    buffer[..length].copy_from_slice(bytes);
+    output.copy_from_slice(picture);
+    Ok(length)
 }
 
 // The same for the numbers of a video's first line.

@@ -8,6 +8,7 @@ ghost use Rattle.range_coder.specs.Decisions.{start_writer};
 
 use crate::input::{BlockInput, FrameInput};
 use crate::levels::Residual;
+use crate::motion::STILL;
 use block::{MotionVector, Plane, Prediction};
 use range_coder::Writer;
 
@@ -15,7 +16,7 @@ use range_coder::Writer;
 fn vector_of(prediction: Prediction) -> MotionVector {
     match prediction {
         Prediction::Motion(vector) => vector,
-        Prediction::Flat(_) => MotionVector { dx: 0, dy: 0 },
+        Prediction::Flat(_) => STILL,
     }
 }
 
@@ -73,7 +74,7 @@ impl<'a> FrameInput<'a> {
         requires band { length band.old ≡ 16 * (format_of self.now.format).across }
         ensures { (p : Progress self.now (row * (format_of self.now.format).across) writer.old) → RowEncoded self.now row (format_of self.now.format).across writer.old writer.new p band.new }
     {
-        let mut before = MotionVector { dx: 0, dy: 0 };
+        let mut before = STILL;
         for column in 0..self.format.across() {
             before = self.encode_block(writer, row, column, before, band);
         }

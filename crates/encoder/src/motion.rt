@@ -10,7 +10,7 @@ use block::{MotionVector, Prediction, Step};
 const ROUNDS: usize = 8;
 
 // No motion.
-const STILL: MotionVector = MotionVector { dx: 0, dy: 0 };
+pub(crate) const STILL: MotionVector = MotionVector { dx: 0, dy: 0 };
 
 // The sum of absolute differences.
 fn difference(a: [u8; 16], b: [u8; 16]) -> u32
@@ -36,7 +36,7 @@ fn mean(pixels: [u8; 16]) -> u8 {
 fn vector_cost(vector: MotionVector, step: Step) -> u32
     ensures { result ≤ 2 * 64 }
 {
-    if vector.dx == 0 && vector.dy == 0 {
+    if vector == STILL {
         0
     } else {
         2 * u32::from(step.value())
