@@ -1,18 +1,11 @@
-use Rattle.std.proofs.Common.{◌≡◌, ◌+◌, ◌*◌, ◌≤◌, length, ap, subst, mul_comm, arith}
+use Rattle.std.proofs.Common.{◌≡◌, ◌+◌, ◌*◌, ◌≤◌, length, ap, arith}
 use Rattle.std.proofs.lemmas.Nat.{mul-le}
 use Rattle.std.proofs.lemmas.List.Edits.{length-between}
-use Rattle.encoder.specs.Progress.{FrameEncoded}
 use Rattle.encoder.proofs.Rows.{frame_none, frame_more}
 use Rattle.encoder.proofs.input.FrameInput.encode.Goals as goal
 
 pub loop-row-init : goal.loop-row-init
 loop-row-init c e s = frame_none c.args.self.now c.args.writer.now c.args.output.now e s
-
-pub slice_bounds-encode_row-end : goal.slice_bounds-encode_row-end
-slice_bounds-encode_row-end c =
-    let a = c.across-band.ensures in
-    let down = c.args.self.now.format.down in
-    omega (arith, mul-le (c.loop-row.row + 1) (16 * c.across-band.result) down (16 * c.across-band.result) (omega arith) (omega arith), mul_comm down c.across-band.result, ap (λ n. n * down) a)
 
 -- the row that was lent on starts within the picture, and is as long as a row of blocks
 module _ (c : goal.After-slice_known-in-loop-row-1) where
@@ -35,8 +28,3 @@ loop-row-preserved c e s =
     frame_more c.args.self.now c.loop-row.row _ _
     c.loop-row.writer c.encode_row.new.writer c.loop-row.output c.encode_row.new.band g (c.encode_row.ensures g.next)
     (row_start c) (row_length c) (omega (arith, row_start c, rows_within c))
-
-pub returns : goal.returns
-returns c e s =
-    let n : c.loop-row.row ≡ c.args.self.now.format.down = omega arith in
-    subst (λ k. FrameEncoded c.args.self.now k c.loop-row.writer c.loop-row.output) n (c.loop-row.invariant e s)
