@@ -1,19 +1,10 @@
 // Random blocks, written and read back.
+use crate::failure::Failure;
 use crate::group::Group;
 use crate::random::Random;
 use block::{Block, MotionVector, Prediction};
 use range_coder::{Reader, Writer};
-use std::io;
-
-// A block's prediction and levels, in a form that can be compared and printed.
-fn parts(block: Block) -> ((&'static str, i32, i32), [i32; 16]) {
-    let prediction = match block.prediction {
-        Prediction::Flat(value) => ("flat", i32::from(value), 0),
-        Prediction::Motion(vector) => ("motion", vector.dx, vector.dy),
-    };
-    let levels = block.levels;
-    (prediction, levels)
-}
+use std::array;
 
 // A number that is often 0 or small, and at times the largest that can be said.
 fn random_number(random: &mut Random) -> i32 {
@@ -28,13 +19,11 @@ fn random_number(random: &mut Random) -> i32 {
 }
 
 pub fn random_levels(random: &mut Random) -> [i32; 16] {
-    let mut levels = [0; 16];
-    if random.below(4) > 0 {
-        for level in levels.iter_mut() {
-            *level = random_number(random);
-        }
+    if random.below(4) == 0 {
+        [0; 16]
+    } else {
+        array::from_fn(|_| random_number(random))
     }
-    levels
 }
 
 fn random_block(random: &mut Random, key: bool) -> Block {
@@ -60,24 +49,22 @@ pub fn write_blocks(writer: &mut Writer, key: bool, blocks: &[Block]) {
 pub fn check_read(group: &mut Group, case: &str, key: bool, bytes: &[u8], blocks: &[Block]) {
     let mut reader = Reader::new(bytes);
     for block in blocks {
-        let read = block::read_block(&mut reader, key);
-        group.equal(case, parts(read), parts(*block));
+        group.equal(case, block::read_block(&mut reader, key), *block);
     }
 }
 
-pub fn check_random_blocks(rt: &HostRuntime) -> io::Result<()> {
-    let mut group = Group::new(rt, "random blocks read back");
+pub fn check_random_blocks(group: &mut Group) -> Result<(), Failure> {
     let mut random = Random::new(4);
     let mut blocks = [random_block(&mut random, true); 20];
     for _ in 0..100u8 {
         let key = random.coin();
-        for block in blocks.iter_mut() {
+        for block in &mut blocks {
             *block = random_block(&mut random, key);
         }
         let mut writer = Writer::new();
         write_blocks(&mut writer, key, &blocks);
         let case = if key { "key frame" } else { "other frame" };
-        check_read(&mut group, case, key, writer.finish(), &blocks);
+        check_read(group, case, key, writer.finish(), &blocks);
     }
-    group.end()
+    Ok(())
 }

@@ -1,11 +1,12 @@
 // Examples that were worked out by hand: the bytes of frames, residuals, and the levels nearest to a source.
 use crate::blocks::{check_read, random_levels, write_blocks};
+use crate::failure::Failure;
 use crate::group::Group;
 use crate::random::Random;
 use block::{Block, MotionVector, Prediction, Step};
 use frame::ShowResult;
 use range_coder::Writer;
-use std::io;
+use std::array;
 
 const BLACK: Block = Block {
     prediction: Prediction::Flat(0),
@@ -57,47 +58,37 @@ static BYTE_EXAMPLES: [(&str, bool, &[Block], &[u8]); 9] = [
     ("16 times no motion", false, &[STILL; 16], &SIXTEEN_STILL),
 ];
 
-pub fn check_bytes(rt: &HostRuntime) -> io::Result<()> {
-    let mut group = Group::new(rt, "byte examples");
+pub fn check_bytes(group: &mut Group) -> Result<(), Failure> {
     for (name, key, blocks, bytes) in &BYTE_EXAMPLES {
         let mut writer = Writer::new();
         write_blocks(&mut writer, *key, *blocks);
         group.equal(*name, writer.finish(), *bytes);
     }
-    group.end()
+    Ok(())
 }
 
-pub fn check_bytes_read(rt: &HostRuntime) -> io::Result<()> {
-    let mut group = Group::new(rt, "blocks of byte examples read back");
+pub fn check_bytes_read(group: &mut Group) -> Result<(), Failure> {
     for (name, key, blocks, bytes) in &BYTE_EXAMPLES {
-        check_read(&mut group, *name, *key, *bytes, *blocks);
+        check_read(group, *name, *key, *bytes, *blocks);
     }
-    group.end()
+    Ok(())
 }
 
 // A frame whose block would be taken from over an edge is invalid, and changes nothing.
-pub fn check_invalid(rt: &HostRuntime) -> io::Result<()> {
-    let mut group = Group::new(rt, "invalid frame that leaves the picture as it was");
+pub fn check_invalid(group: &mut Group) -> Result<(), Failure> {
     let mut picture = [7; 16];
-    let invalid = match frame::show(1, 1, 8, false, &[197, 128], &[0; 16], &mut picture) {
-        ShowResult::Invalid => true,
-        ShowResult::Shown | ShowResult::Rejected(_) => false,
-    };
+    let shown = frame::show(1, 1, 8, false, &[197, 128], &[0; 16], &mut picture);
     group.equal(
         "1 right and 2 up in one block",
-        (invalid, picture),
+        (matches!(shown, ShowResult::Invalid), picture),
         (true, [7; 16]),
     );
-    group.end()
+    Ok(())
 }
 
 // The sixteen values of four rows.
 fn flattened<T: Copy>(rows: [[T; 4]; 4]) -> [T; 16] {
-    let mut values = [rows[0][0]; 16];
-    for i in 0..16 {
-        values[i] = rows[i / 4][i % 4];
-    }
-    values
+    array::from_fn(|i| rows[i / 4 % 4][i % 4])
 }
 
 // Which level is not 0 and what it is, a flat prediction, and the two rows of pixels that then take turns with step 8.
@@ -107,11 +98,8 @@ static RESIDUALS: [(usize, i32, u8, [u8; 4], [u8; 4]); 3] = [
     (5, 7, 250, [254, 247, 254, 247], [247, 254, 247, 254]),
 ];
 
-pub fn check_residuals(rt: &HostRuntime) -> io::Result<()> {
-    let mut group = Group::new(rt, "residual examples by level");
-    let Some(step) = Step::new(8) else {
-        return group.end();
-    };
+pub fn check_residuals(group: &mut Group) -> Result<(), Failure> {
+    let step = Step::new(8).ok_or(Failure::NoStep)?;
     for (index, level, value, even, odd) in &RESIDUALS {
         let mut levels = [0; 16];
         levels[*index % 16] = *level;
@@ -122,29 +110,23 @@ pub fn check_residuals(rt: &HostRuntime) -> io::Result<()> {
         let found = block::reconstruct(step, BRIGHTER.levels, [value; 16]);
         group.equal(0, found, [value.saturating_add(2); 16]);
     }
-    group.end()
+    Ok(())
 }
 
 // The residuals of a block by the plain sum at each pixel.
 fn plain_residuals(step: Step, levels: [i32; 16]) -> [i64; 16] {
-    let mut residuals = [0; 16];
-    for i in 0..16 {
-        residuals[i] = block::residual_at(step, levels, i % 4, i / 4);
-    }
-    residuals
+    array::from_fn(|i| block::residual_at(step, levels, i % 4, i / 4))
 }
 
-pub fn check_residual_sums(rt: &HostRuntime) -> io::Result<()> {
-    let mut group = Group::new(rt, "residuals by butterflies and by the plain sum");
+pub fn check_residual_sums(group: &mut Group) -> Result<(), Failure> {
     let mut random = Random::new(2);
     for case in 0..200u8 {
         let levels = random_levels(&mut random);
-        if let Some(step) = Step::new(random.below(64).saturating_add(1)) {
-            let found = block::residuals(step, levels);
-            group.equal(case, found, plain_residuals(step, levels));
-        }
+        let step = Step::new(random.below(64) + 1).ok_or(Failure::NoStep)?;
+        let found = block::residuals(step, levels);
+        group.equal(case, found, plain_residuals(step, levels));
     }
-    group.end()
+    Ok(())
 }
 
 const SOURCE: [[u8; 4]; 4] = [
@@ -188,15 +170,13 @@ static NEAREST: [(u64, [[i32; 4]; 4], [[u8; 4]; 4]); 2] = [
     ),
 ];
 
-pub fn check_nearest_levels(rt: &HostRuntime) -> io::Result<()> {
-    let mut group = Group::new(rt, "nearest levels and their pixels by step");
+pub fn check_nearest_levels(group: &mut Group) -> Result<(), Failure> {
     for (value, levels, pixels) in &NEAREST {
-        if let Some(step) = Step::new(*value) {
-            let found = block::nearest_levels(step, flattened(SOURCE), [25; 16]);
-            group.equal(*value, found, flattened(*levels));
-            let made = block::reconstruct(step, found, [25; 16]);
-            group.equal(*value, made, flattened(*pixels));
-        }
+        let step = Step::new(*value).ok_or(Failure::NoStep)?;
+        let found = block::nearest_levels(step, flattened(SOURCE), [25; 16]);
+        group.equal(*value, found, flattened(*levels));
+        let made = block::reconstruct(step, found, [25; 16]);
+        group.equal(*value, made, flattened(*pixels));
     }
-    group.end()
+    Ok(())
 }

@@ -1,112 +1,120 @@
 // Random frames of random formats, coded and shown.
+use crate::failure::Failure;
 use crate::group::Group;
-use crate::pictures::{ROOM, change, copy, draw, first, first_mut, is_near, shift};
+use crate::pictures::{change, draw, is_near, shift};
 use crate::random::Random;
 use encoder::FrameInput;
 use frame::{Format, FrameHeader, Rejection, ShowResult};
-use std::io;
+use std::alloc::{AllocError, Global};
+
+// The worst case of the largest format.
+const MOST_BYTES: usize = 62728;
 
 // Any size and step, and often a step of 1.
 fn random_format(random: &mut Random) -> Result<Format, Rejection> {
-    let across = random.below(60).saturating_add(1);
-    let most = 224u64.checked_div(across).unwrap_or(1).min(60);
-    let down = random.below(most).saturating_add(1);
+    let across = random.below(60) + 1;
+    let most = (224 / across).clamp(1, 60);
+    let down = random.below(most) + 1;
     let step = if random.below(4) == 0 {
         1
     } else {
-        random.below(64).saturating_add(1)
+        random.below(64) + 1
     };
     Format::new(across, down, step)
 }
 
 // A source that has more or less to do with the reference picture.
-fn draw_source(random: &mut Random, reference: &[u8], source: &mut [u8]) {
-    copy(reference, source);
+fn random_source(
+    heap: Global,
+    random: &mut Random,
+    reference: &[u8],
+) -> Result<Vec<u8>, AllocError> {
+    let mut source = Vec::from_slice(heap, reference)?;
     match random.below(4) {
-        0 => draw(random, source),
-        1 => change(random, source, 2),
-        2 => change(random, source, 40),
-        _ => shift(source, usize::from(random.byte() % 8)),
+        0 => draw(random, &mut source),
+        1 => change(random, &mut source, 2),
+        2 => change(random, &mut source, 40),
+        _ => shift(&mut source, usize::from(random.byte() % 8)),
     }
+    Ok(source)
 }
 
-// Codes a source, and shows the frame: both are to give one picture, within half a step of the source.
+// Codes a frame, and shows it: both are to give one picture, within half a step of the source.
 // The answer is how many bytes the frame has.
-fn code_and_show(
-    format: Format,
-    key: bool,
-    source: &[u8],
-    reference: &[u8],
-) -> Result<usize, &'static str> {
-    let header = FrameHeader { key };
-    let mut buffer = [0; 62728];
-    let mut coded = [0; ROOM];
-    let mut shown = [0; ROOM];
-    let coded = first_mut(&mut coded, format.pixel_count());
-    let shown = first_mut(&mut shown, format.pixel_count());
-    let input = FrameInput {
-        format,
-        header,
-        source,
-        reference,
+fn code_and_show(heap: Global, input: FrameInput<'_>) -> Result<usize, Failure> {
+    let pixels = input.format.pixel_count();
+    let mut bytes = vec![in heap; 0; MOST_BYTES]?;
+    let mut coded = vec![in heap; 0; pixels]?;
+    let mut shown = vec![in heap; 0; pixels]?;
+    let length = encoder::code_frame(input, &mut bytes, &mut coded)?;
+    bytes.truncate(length);
+    let ShowResult::Shown = frame::show_frame(
+        input.format,
+        input.header,
+        &bytes,
+        input.reference,
+        &mut shown,
+    ) else {
+        return Err(Failure::NotShown);
     };
-    let Ok(length) = encoder::code_frame(input, &mut buffer, coded) else {
-        return Err("the encoder rejects it");
-    };
-    let bytes = first(&buffer, length);
-    let ShowResult::Shown = frame::show_frame(format, header, bytes, reference, shown) else {
-        return Err("the decoder does not show it");
-    };
-    if &*shown != &*coded {
-        return Err("the decoder shows another picture");
+    if shown != coded {
+        return Err(Failure::OtherPicture);
     }
-    if !is_near(shown, source, format.step().half()) {
-        return Err("a pixel is further than half a step from its source");
+    if !is_near(&shown, input.source, input.format.step().half()) {
+        return Err(Failure::FarFromSource);
     }
     Ok(length)
 }
 
-fn check_random_frame(random: &mut Random) -> Result<(), &'static str> {
-    let Ok(format) = random_format(random) else {
-        return Err("the format is rejected");
-    };
-    let mut reference = [0; ROOM];
-    let mut source = [0; ROOM];
-    let reference = first_mut(&mut reference, format.pixel_count());
-    let source = first_mut(&mut source, format.pixel_count());
-    draw(random, reference);
-    draw_source(random, reference, source);
-    code_and_show(format, random.coin(), source, reference)?;
+fn check_random_frame(heap: Global, random: &mut Random) -> Result<(), Failure> {
+    let format = random_format(random)?;
+    let mut reference = vec![in heap; 0; format.pixel_count()]?;
+    draw(random, &mut reference);
+    let source = random_source(heap, random, &reference)?;
+    let key = random.coin();
+    code_and_show(
+        heap,
+        FrameInput {
+            format,
+            header: FrameHeader { key },
+            source: &source,
+            reference: &reference,
+        },
+    )?;
     Ok(())
 }
 
-pub fn check_random_frames(rt: &HostRuntime) -> io::Result<()> {
-    let mut group = Group::new(rt, "random frames");
+pub fn check_random_frames(group: &mut Group) -> Result<(), Failure> {
     let mut random = Random::new(5);
     for case in 0..300u16 {
-        group.equal(case, check_random_frame(&mut random), Ok(()));
+        let res = check_random_frame(group.heap(), &mut random);
+        group.passes(case, res);
     }
-    group.end()
+    Ok(())
 }
 
 // A picture of 14 by 16 blocks that does not change takes few bytes.
-fn check_still_frame(random: &mut Random, step: u64) -> Result<(), &'static str> {
-    let Ok(format) = Format::new(14, 16, step) else {
-        return Err("the format is rejected");
-    };
-    let mut picture = [0; ROOM];
+fn check_still_frame(heap: Global, random: &mut Random, step: u64) -> Result<(), Failure> {
+    let format = Format::new(14, 16, step)?;
+    let mut picture = vec![in heap; 0; format.pixel_count()]?;
     draw(random, &mut picture);
-    if code_and_show(format, false, &picture, &picture)? > 40 {
-        return Err("it has more than 40 bytes");
+    let still = FrameInput {
+        format,
+        header: FrameHeader { key: false },
+        source: &picture,
+        reference: &picture,
+    };
+    if code_and_show(heap, still)? > 40 {
+        return Err(Failure::TooManyBytes);
     }
     Ok(())
 }
 
-pub fn check_still_frames(rt: &HostRuntime) -> io::Result<()> {
-    let mut group = Group::new(rt, "still frames of at most 40 bytes");
+pub fn check_still_frames(group: &mut Group) -> Result<(), Failure> {
     let mut random = Random::new(6);
     for step in [1, 8, 64] {
-        group.equal(step, check_still_frame(&mut random, step), Ok(()));
+        let res = check_still_frame(group.heap(), &mut random, step);
+        group.passes(step, res);
     }
-    group.end()
+    Ok(())
 }

@@ -3,6 +3,7 @@
 
 mod blocks;
 mod examples;
+mod failure;
 mod frames;
 mod group;
 mod pictures;
@@ -10,21 +11,50 @@ mod random;
 mod rejections;
 mod video;
 
+use group::run;
 use std::io;
 
 fn main(rt: HostRuntime) -> io::Result<()> {
-    examples::check_bytes(&rt)?;
-    examples::check_bytes_read(&rt)?;
-    examples::check_invalid(&rt)?;
-    examples::check_residuals(&rt)?;
-    examples::check_residual_sums(&rt)?;
-    examples::check_nearest_levels(&rt)?;
-    blocks::check_random_blocks(&rt)?;
-    frames::check_random_frames(&rt)?;
-    frames::check_still_frames(&rt)?;
-    rejections::check_coding(&rt)?;
-    rejections::check_showing(&rt)?;
-    rejections::check_receiving(&rt)?;
-    rejections::check_pushing(&rt)?;
+    run(&rt, "byte examples", examples::check_bytes)?;
+    run(
+        &rt,
+        "blocks of byte examples read back",
+        examples::check_bytes_read,
+    )?;
+    run(
+        &rt,
+        "invalid frame that leaves the picture as it was",
+        examples::check_invalid,
+    )?;
+    run(&rt, "residual examples by level", examples::check_residuals)?;
+    run(
+        &rt,
+        "residuals by butterflies and by the plain sum",
+        examples::check_residual_sums,
+    )?;
+    run(
+        &rt,
+        "nearest levels and their pixels by step",
+        examples::check_nearest_levels,
+    )?;
+    run(&rt, "random blocks read back", blocks::check_random_blocks)?;
+    run(&rt, "random frames", frames::check_random_frames)?;
+    run(
+        &rt,
+        "still frames of at most 40 bytes",
+        frames::check_still_frames,
+    )?;
+    run(&rt, "rejections by the encoder", rejections::check_coding)?;
+    run(&rt, "rejections by the decoder", rejections::check_showing)?;
+    run(
+        &rt,
+        "rejections by the receiver",
+        rejections::check_receiving,
+    )?;
+    run(
+        &rt,
+        "rejections by the encoder of a video",
+        rejections::check_pushing,
+    )?;
     video::check_videos(&rt)
 }

@@ -1,4 +1,5 @@
 // Numbers that look random and are the same in each run: a xorshift generator.
+ghost use Rattle.std.specs.Prelude.{◌<◌};
 
 #[derive(Drop)]
 pub struct Random {
@@ -17,10 +18,12 @@ impl Random {
         self.state
     }
 
-    // 0 to one below the limit; 0 if the limit is 0.
-    pub fn below(&mut self, limit: u64) -> u64 {
-        let number = self.next() >> 16;
-        if limit == 0 { 0 } else { number % limit }
+    // 0 to one below the limit.
+    pub fn below(&mut self, limit: u64) -> u64
+        requires { 0 < limit }
+        ensures { result < limit }
+    {
+        (self.next() >> 16) % limit
     }
 
     pub fn byte(&mut self) -> u8 {
@@ -33,18 +36,11 @@ impl Random {
 
     // A number of either sign, at most so large.
     pub fn signed(&mut self, most: u16) -> i32 {
-        let limit = u64::from(most) + 1;
-        let size = i32::try_from(self.below(limit)).unwrap_or(0);
-        if self.coin() {
-            size
-        } else {
-            size.saturating_neg()
-        }
+        let size = self.below(u64::from(most) + 1) as i32;
+        if self.coin() { size } else { -size }
     }
 
     pub fn fill(&mut self, pixels: &mut [u8]) {
-        for pixel in pixels.iter_mut() {
-            *pixel = self.byte();
-        }
+        pixels.fill_with(|| self.byte());
     }
 }

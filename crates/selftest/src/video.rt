@@ -1,138 +1,166 @@
 // Videos with motion, sent as packets of which some are lost, doubled or late.
-use crate::group::Group;
-use crate::pictures::{ROOM, change, copy, first, first_mut, is_near, shift};
+use crate::failure::Failure;
+use crate::group::{Group, run};
+use crate::pictures::{change, is_near, shift};
 use crate::random::Random;
 use encoder::Encoder;
-use frame::{Format, FrameHeader, Rejection};
+use frame::{Format, FrameHeader, VideoHeader};
+use std::alloc::Global;
 use std::io;
 use stream::Screen;
 
 // How many frames a video has.
 const FRAMES: usize = 60;
 
+// How many bytes there is room for in a frame.
+const MOST_BYTES: usize = 8192;
+
 // A frame, its source, and the picture that its encoder says it shows.
-#[derive(Clone, Copy)]
+#[derive(Drop)]
 struct Recorded {
-    key: bool,
-    length: usize,
-    bytes: [u8; 8192],
-    source: [u8; ROOM],
-    picture: [u8; ROOM],
+    number: u64,
+    header: FrameHeader,
+    bytes: Vec<u8>,
+    source: Vec<u8>,
+    picture: Vec<u8>,
 }
 
-// A scene that moves to the left and up by a pixel from frame to frame, while some of its pixels change.
-fn record(random: &mut Random, format: Format, frames: &mut [Recorded]) -> Result<(), Rejection> {
-    let pixels = format.pixel_count();
-    let by = usize::from(format.plane_size().width).saturating_add(1);
-    let mut scene = [0; ROOM];
-    let scene = first_mut(&mut scene, pixels);
-    random.fill(scene);
-    let mut encoder = Encoder::new(format);
-    for frame in frames.iter_mut() {
-        shift(scene, by);
-        change(random, scene, 50);
-        copy(scene, first_mut(&mut frame.source, pixels));
-        let key = random.below(8) == 0;
-        let pushed = encoder.push(scene, key, &mut frame.bytes)?;
-        frame.key = pushed.key;
-        frame.length = pushed.length;
-        copy(encoder.picture(), first_mut(&mut frame.picture, pixels));
+impl Recorded {
+    // Codes a source as the encoder's next frame, and as a key frame if asked for.
+    fn new(
+        heap: Global,
+        encoder: &mut Encoder,
+        source: &[u8],
+        key: bool,
+    ) -> Result<Recorded, Failure> {
+        let mut bytes = vec![in heap; 0; MOST_BYTES]?;
+        let pushed = encoder.push(source, key, &mut bytes)?;
+        bytes.truncate(pushed.length);
+        Ok(Recorded {
+            number: pushed.number,
+            header: FrameHeader { key: pushed.key },
+            bytes,
+            source: Vec::from_slice(heap, source)?,
+            picture: Vec::from_slice(heap, encoder.picture())?,
+        })
     }
-    Ok(())
 }
 
-// A screen that is sure is to show the picture of the encoder, which is within half a step of its source.
-fn verdict(format: Format, screen: &Screen, frames: &[Recorded]) -> &'static str {
-    let Some(number) = screen.shown() else {
-        return "sure of nothing";
-    };
-    let Some(frame) = frames.get(usize::try_from(number).unwrap_or(usize::MAX)) else {
-        return "sure of a frame that there is not";
-    };
-    if screen.picture() != first(&frame.picture, format.pixel_count()) {
-        return "another picture than the encoder's";
-    }
-    if !is_near(screen.picture(), &frame.source, format.step().half()) {
-        return "a pixel further than half a step from its source";
-    }
-    "right"
-}
-
-// Sends a frame to a screen, which counts as a case if the screen is sure then.
-fn send(
-    group: &mut Group,
+#[derive(Drop)]
+struct Video {
     format: Format,
-    screen: &mut Screen,
-    frames: &[Recorded],
-    number: usize,
-) {
-    let Some(frame) = frames.get(number) else {
-        return;
-    };
-    let header = FrameHeader { key: frame.key };
-    let bytes = first(&frame.bytes, frame.length);
-    if screen.receive(number as u64, header, bytes).is_err() {
-        group.equal(number, "rejected", "received");
-    }
-    if screen.sure() {
-        group.equal(number, verdict(format, screen, frames), "right");
-    }
+    frames: Vec<Recorded>,
 }
 
-// Sends a video's frames: some are lost, some come twice, and some come after a later one.
-fn send_all(group: &mut Group, random: &mut Random, format: Format, frames: &[Recorded]) {
-    let mut screen = Screen::new(format);
-    let mut held = 0;
-    for number in 0..frames.len() {
-        match random.below(10) {
-            0 => {}
-            1 => held = number,
-            2 => {
-                send(group, format, &mut screen, frames, number);
-                send(group, format, &mut screen, frames, number);
+impl Video {
+    // A scene that moves to the left and up by a pixel from frame to frame, while some of its pixels change.
+    fn record(heap: Global, random: &mut Random, format: Format) -> Result<Video, Failure> {
+        let by = usize::from(format.plane_size().width) + 1;
+        let mut scene = vec![in heap; 0; format.pixel_count()]?;
+        random.fill(&mut scene);
+        let mut encoder = Encoder::new(format);
+        let mut frames = Vec::with_capacity(heap, FRAMES)?;
+        for _ in 0..FRAMES {
+            shift(&mut scene, by);
+            change(random, &mut scene, 50);
+            let key = random.below(8) == 0;
+            frames.push(Recorded::new(heap, &mut encoder, &scene, key)?)?;
+        }
+        Ok(Video { format, frames })
+    }
+
+    // A screen that is sure is to show the picture of the encoder, which is within half a step of its source.
+    fn check_shown(&self, screen: &Screen) -> Result<(), Failure> {
+        let number = screen.shown().ok_or(Failure::NothingShown)?;
+        let frame = self
+            .frames
+            .iter()
+            .find(|frame| frame.number == number)
+            .ok_or(Failure::NoSuchFrame)?;
+        if screen.picture() != frame.picture.as_slice() {
+            return Err(Failure::OtherPicture);
+        }
+        if !is_near(screen.picture(), &frame.source, self.format.step().half()) {
+            return Err(Failure::FarFromSource);
+        }
+        Ok(())
+    }
+
+    // Sends a frame to a screen, which counts as a case if the screen is sure then.
+    fn send(
+        &self,
+        group: &mut Group,
+        screen: &mut Screen,
+        frame: &Recorded,
+    ) -> Result<(), Failure> {
+        screen.receive(frame.number, frame.header, &frame.bytes)?;
+        if screen.sure() {
+            group.passes(frame.number, self.check_shown(screen));
+        }
+        Ok(())
+    }
+
+    // Sends the frames: some are lost, some come twice, and some come after a later one.
+    fn send_all(&self, group: &mut Group, random: &mut Random) -> Result<(), Failure> {
+        let mut screen = Screen::new(self.format);
+        let mut held = self.frames.first();
+        for frame in &self.frames {
+            match random.below(10) {
+                0 => {}
+                1 => held = Some(frame),
+                2 => {
+                    self.send(group, &mut screen, frame)?;
+                    self.send(group, &mut screen, frame)?;
+                }
+                _ => self.send(group, &mut screen, frame)?,
             }
-            _ => send(group, format, &mut screen, frames, number),
+            if random.below(6) == 0
+                && let Some(late) = held
+            {
+                self.send(group, &mut screen, late)?;
+            }
         }
-        if random.below(6) == 0 {
-            send(group, format, &mut screen, frames, held);
-        }
+        Ok(())
     }
 }
 
-// Videos by name: blocks across and down, and the step.
-static VIDEOS: [(&str, u64, u64, u64); 3] = [
-    ("sure and right in a video of 1 by 1 blocks", 1, 1, 16),
-    ("sure and right in a video of 9 by 5 blocks", 9, 5, 1),
-    ("sure and right in a video of 14 by 16 blocks", 14, 16, 8),
+static VIDEOS: [(&str, VideoHeader); 3] = [
+    (
+        "sure and right in a video of 1 by 1 blocks",
+        VideoHeader {
+            across: 1,
+            down: 1,
+            step: 16,
+        },
+    ),
+    (
+        "sure and right in a video of 9 by 5 blocks",
+        VideoHeader {
+            across: 9,
+            down: 5,
+            step: 1,
+        },
+    ),
+    (
+        "sure and right in a video of 14 by 16 blocks",
+        VideoHeader {
+            across: 14,
+            down: 16,
+            step: 8,
+        },
+    ),
 ];
 
-fn check_video(group: &mut Group, random: &mut Random, format: Format) {
-    let source = [0; ROOM];
-    let picture = [0; ROOM];
-    let bytes = [0; 8192];
-    let empty = Recorded {
-        key: false,
-        length: 0,
-        bytes,
-        source,
-        picture,
-    };
-    let mut frames = [empty; FRAMES];
-    let recorded = record(random, format, &mut frames);
-    if recorded.is_err() {
-        group.equal("recording", "rejected", "recorded");
-    }
-    send_all(group, random, format, &frames);
+fn check_video(group: &mut Group, random: &mut Random, header: VideoHeader) -> Result<(), Failure> {
+    let format = Format::try_from(header)?;
+    let video = Video::record(group.heap(), random, format)?;
+    video.send_all(group, random)
 }
 
 pub fn check_videos(rt: &HostRuntime) -> io::Result<()> {
     let mut random = Random::new(9);
-    for (name, across, down, step) in &VIDEOS {
-        let mut group = Group::new(rt, *name);
-        if let Ok(format) = Format::new(*across, *down, *step) {
-            check_video(&mut group, &mut random, format);
-        }
-        group.end()?;
+    for (name, header) in &VIDEOS {
+        run(rt, *name, |group| check_video(group, &mut random, *header))?;
     }
     Ok(())
 }
