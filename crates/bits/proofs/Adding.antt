@@ -27,7 +27,7 @@ prefix_set xs i v (suc d) h =
     rw (add-suc i d, get_or-set_other xs i (suc (i + d)) v 0 ne, pow-succ' 256 d) (omega arith)
 
 -- one byte of the sum
-pub add_turn : (xs : List ℕ) (i d c : ℕ) → i < length xs
+add_turn : (xs : List ℕ) (i d c : ℕ) → i < length xs
     → byte_prefix (suc (i + d)) (set xs i ((get_or xs i 0 + c) % 256)) + (get_or xs i 0 + c) / 256 * 256 ^ suc d
     ≡ byte_prefix (suc (i + d)) xs + c * 256 ^ d
 add_turn xs i d c h =
@@ -37,25 +37,19 @@ add_turn xs i d c h =
     let e : (256 * (sum / 256) + sum % 256) * W ≡ sum * W = ap (λ x. x * W) (div-add-mod sum 256) in
     rw (pow-succ' 256 d) (omega arith)
 
--- what is carried past the first byte is lost, so there is nothing to carry where the sum fits
-pub no_carry : (x y c i n : ℕ) → i ≤ 0 → x + c * 256 ^ (n - i) ≡ y → y < 256 ^ n → c ≡ 0
-no_carry x y c (suc i) n l e h = absurd (let f : ⊥ = omega arith in f)
-no_carry x y zero zero n l e h = refl
-no_carry x y (suc c) zero n l e h =
-    let z : n - 0 ≡ n = omega arith in
-    let w : x + suc c * 256 ^ n ≡ y = rw z at e in
-    absurd (let f : ⊥ = omega arith in f)
+-- the turn of the loop that adds, at place i of the bytes up to `last`
+pub add_at_place : (xs : List ℕ) (i last c : ℕ) → i ≤ last → i < length xs
+    → byte_prefix (last + 1) (set xs i ((get_or xs i 0 + c) % 256)) + (get_or xs i 0 + c) / 256 * 256 ^ (last + 1 - i)
+    ≡ byte_prefix (last + 1) xs + c * 256 ^ (last - i)
+add_at_place xs i last c h l =
+    let n : last + 1 ≡ suc (i + (last - i)) = omega arith in
+    let d : last + 1 - i ≡ suc (last - i) = omega arith in
+    rw (d, n) (add_turn xs i (last - i) c l)
 
--- the turn of the loop that adds, from the byte before place i on
-pub add_before : (xs : List ℕ) (i last c : ℕ) → 0 < i → i ≤ last + 1 → i - 1 < length xs
-    → byte_prefix (last + 1) (set xs (i - 1) ((get_or xs (i - 1) 0 + c) % 256)) + (get_or xs (i - 1) 0 + c) / 256 * 256 ^ (last + 1 - (i - 1))
-    ≡ byte_prefix (last + 1) xs + c * 256 ^ (last + 1 - i)
-add_before xs i last c p h l =
-    let e : last + 1 ≡ suc ((i - 1) + (last + 1 - i)) = omega arith in
-    let f : last + 1 - (i - 1) ≡ suc (last + 1 - i) = omega arith in
-    let a = add_turn xs (i - 1) (last + 1 - i) c l in
-    rw f (ap (λ n. byte_prefix n (set xs (i - 1) ((get_or xs (i - 1) 0 + c) % 256)) + (get_or xs (i - 1) 0 + c) / 256 * 256 ^ suc (last + 1 - i)) e
-    ∙ a ∙ sym (ap (λ n. byte_prefix n xs + c * 256 ^ (last + 1 - i)) e))
+-- what is carried past the first byte is lost, so there is nothing to carry where the sum fits
+pub no_carry : (x y c n : ℕ) → x + c * 256 ^ n ≡ y → y < 256 ^ n → x ≡ y
+no_carry x y zero n e h = omega arith
+no_carry x y (suc c) n e h = absurd (let f : ⊥ = omega arith in f)
 
 -- ADDING AT A BIT: the sum is added in the bytes up to the one that holds bit n - 1, with zero bits after it
 

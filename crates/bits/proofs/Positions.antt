@@ -1,10 +1,10 @@
 -- The bits of bytes by their positions: past the last byte they are 0, and zero bytes at the end change none of them.
-use Rattle.std.proofs.Common.{◌≡◌, ℕ, zero, suc, ◌+◌, ◌-◌, ◌*◌, ◌/◌, ◌%◌, ◌^◌, ◌<◌, ◌≤◌, min, Bool, true, false, eqb, List, [], ◌∷◌, length, get_or, take, sym, refl, ap, ◌∙◌, inl, inr, arith}
+use Rattle.std.proofs.Common.{◌≡◌, ℕ, zero, suc, ◌+◌, ◌-◌, ◌*◌, ◌/◌, ◌%◌, ◌^◌, ◌<◌, ◌≤◌, Bool, true, false, eqb, List, length, get_or, take, sym, refl, ap, ◌∙◌, inl, inr, arith}
 use mathlib.Core.Path.{fun_ext}
 use native.Mathlib.Nat.{zero-div}
-use Rattle.std.proofs.lemmas.List.{get_or_past, get_or-take, length-take, take_all}
+use Rattle.std.proofs.lemmas.List.{get_or_past, get_or-take, length-take}
 use Rattle.std.proofs.lemmas.Bool.{cases_lt}
-use Rattle.bits.specs.Bits.{Bits, bit, bits_of, skip}
+use Rattle.bits.specs.Bits.{bit, bits_of, skip}
 
 pub bit_small : (b : Bool) → bit b ≤ 1
 unfolding bit
@@ -41,31 +41,10 @@ bit_past bytes n h = bit_of_zero bytes n (get_or_past bytes (n / 8) 0 (omega ari
 pub bits_past : (bytes : List ℕ) (n : ℕ) → 8 * length bytes ≤ n → skip n (bits_of bytes) ≡ skip 1 (skip n (bits_of bytes))
 bits_past bytes n h = fun_ext (λ k. bit_past bytes (n + k) (omega arith) ∙ sym (bit_past bytes (n + (1 + k)) (omega arith)))
 
-pub skip_to : (bs : Bits) (m n : ℕ) → m ≡ n + 1 → skip m bs ≡ skip 1 (skip n bs)
-skip_to bs m n e = fun_ext (λ k. let s : m + k ≡ n + (1 + k) = omega arith in ap bs s)
-
 -- bits are the same where the bytes are
 pub bit_same : (xs ys : List ℕ) (n : ℕ) → get_or xs (n / 8) 0 ≡ get_or ys (n / 8) 0 → bits_of xs n ≡ bits_of ys n
 unfolding bits_of
 bit_same xs ys n h = ap (λ x. eqb (x / 2 ^ (7 - n % 8) % 2) 1) h
-
--- a zero byte at the end can be left off
-trimmed_byte : (bytes : List ℕ) (k j : ℕ) → get_or bytes k 0 ≡ 0 → get_or (take k bytes) j 0 ≡ get_or (take (suc k) bytes) j 0
-trimmed_byte [] zero j z = refl
-trimmed_byte [] (suc k) j z = refl
-trimmed_byte (x ∷ bytes) zero zero z = sym z
-trimmed_byte (x ∷ bytes) zero (suc j) z = refl
-trimmed_byte (x ∷ bytes) (suc k) zero z = refl
-trimmed_byte (x ∷ bytes) (suc k) (suc j) z = trimmed_byte bytes k j z
-
-pub trim_turn : (bytes : List ℕ) (k : ℕ) → get_or bytes k 0 ≡ 0 → bits_of (take k bytes) ≡ bits_of (take (suc k) bytes)
-trim_turn bytes k z = fun_ext (λ n. bit_same (take k bytes) (take (suc k) bytes) n (trimmed_byte bytes k (n / 8) z))
-
-pub take_within : (bytes : List ℕ) (k n : ℕ) → k ≡ min n (length bytes) → take k bytes ≡ take n bytes
-take_within bytes k n e = elim (cases_lt n (length bytes)) [
-  | inl h ↦ (let s : k ≡ n = omega arith in ap (λ m. take m bytes) s)
-  | inr h ↦ take_all k bytes (omega arith) ∙ sym (take_all n bytes h)
-]
 
 -- bytes past the last 1 bit can be left off
 pub bits_of_take : (bytes : List ℕ) (k : ℕ) → ((n : ℕ) → 8 * k ≤ n → bits_of bytes n ≡ false) → bits_of (take k bytes) ≡ bits_of bytes
@@ -73,3 +52,10 @@ bits_of_take bytes k clean = fun_ext (λ n. elim (cases_lt n (8 * k)) [
   | inl h ↦ bit_same (take k bytes) bytes n (get_or-take k bytes (n / 8) 0 (omega arith))
   | inr h ↦ bit_past (take k bytes) n (simp length-take (omega arith)) ∙ sym (clean n h)
 ])
+
+-- and so can a last byte that is zero
+pub last_byte_zero : (bytes : List ℕ) → get_or bytes (length bytes - 1) 0 ≡ 0 → bits_of (take (length bytes - 1) bytes) ≡ bits_of bytes
+last_byte_zero bytes z = bits_of_take bytes (length bytes - 1) (λ n h. bit_of_zero bytes n (elim (cases_lt (n / 8) (length bytes)) [
+  | inl l ↦ (let e : n / 8 ≡ length bytes - 1 = omega arith in rw e z)
+  | inr l ↦ get_or_past bytes (n / 8) 0 l
+]))

@@ -3,7 +3,7 @@ ghost use Rattle.std.specs.Prelude.{◌<◌};
 // The position of the next bit. It stops at the end of the bytes, so that no length overflows it.
 // The bit's index is as wide as the byte's: a byte of its own would leave padding that is copied with every cursor,
 // which made decoding take twice as long.
-#[derive(Clone, Copy)]
+#[derive(Clone, Copy, Debug, PartialEq, Eq)]
 pub struct BitCursor {
     pub byte: usize,
     pub bit: u64,

@@ -21,22 +21,16 @@ impl BitCursor {
         ensures value { result.0 ≡ bit (unread bytes.now self 0) }
         ensures next { unread bytes.now result.1 ≡ skip 1 (unread bytes.now self) }
     {
-        if self.byte >= bytes.len() {
+        let Some(byte) = bytes.get(self.byte) else {
             return (0, self);
-        }
-        let value = (bytes[self.byte] >> (7 - self.bit)) % 2;
-        let next = if self.bit == 7 {
-            BitCursor {
-                byte: self.byte + 1,
-                bit: 0,
-            }
-        } else {
-            BitCursor {
-                byte: self.byte,
-                bit: self.bit + 1,
-            }
         };
-        (value as u64, next)
+        let value = u64::from((byte >> (7 - self.bit)) % 2);
+        let after = self.bit + 1;
+        let next = BitCursor {
+            byte: self.byte + (after / 8) as usize,
+            bit: after % 8,
+        };
+        (value, next)
     }
 }
 
@@ -49,28 +43,16 @@ pub fn add_at(bytes: &mut [u8], last: usize, amount: u32)
     if last >= bytes.len() {
         return;
     }
-    let mut i = last + 1;
     let mut carry = u64::from(amount);
-    while carry > 0 && i > 0 {
-        i -= 1;
+    // By index: after `iter_mut().rev()` a proof knows the length alone.
+    for i in (0..=last).rev() {
+        if carry == 0 {
+            return;
+        }
         let sum = u64::from(bytes[i]) + carry;
         bytes[i] = (sum % 256) as u8;
         carry = sum / 256;
     }
-}
-
-// How many of the first `end` bytes are left when zero bytes at their end are cut off.
-fn trimmed_length(bytes: &[u8], end: usize) -> usize
-    ensures within { result ≤ end }
-    ensures short { result ≤ length bytes.now }
-    ensures same { bits_of (take result bytes.now) ≡ bits_of (take end bytes.now) }
-    ensures last { (result ≡ 0) ⊎ (0 < slice_index bytes.now (result - 1)) }
-{
-    let mut kept = end.min(bytes.len());
-    while kept > 0 && bytes[kept - 1] == 0 {
-        kept -= 1;
-    }
-    kept
 }
 
 // The first `end` bytes without the zero bytes at their end, which say nothing.
@@ -79,6 +61,9 @@ pub fn trimmed(bytes: &[u8], end: usize) -> &[u8]
     ensures same { bits_of result.now ≡ bits_of (take end bytes.now) }
     ensures last { (length result.now ≡ 0) ⊎ (0 < slice_index result.now (length result.now - 1)) }
 {
-    let kept = trimmed_length(bytes, end);
-    &bytes[0..kept]
+    let mut kept = &bytes[..end.min(bytes.len())];
+    while let [front @ .., 0] = kept {
+        kept = front;
+    }
+    kept
 }

@@ -1,30 +1,23 @@
-use Rattle.std.proofs.Common.{◌≡◌, ◌+◌, ◌-◌, ◌≢◌, ◌∙◌, arith, get_or-set_other}
-use Rattle.bits.proofs.Adding.{add_before, no_carry}
+use Rattle.std.proofs.Common.{◌≡◌, ◌+◌, ◌-◌, ◌/◌, ◌≢◌, get_or, ◌∙◌, arith, get_or-set_other}
+use Rattle.bits.proofs.Adding.{add_at_place, no_carry}
 use Rattle.bits.proofs.add_at.Goals as goal
 
-pub loop-carry-preserved : goal.loop-carry-preserved
-loop-carry-preserved c =
-    let i = c.loop-carry.i in (
-      omega arith,
-      omega arith,
-      rw c.from.ensures (add_before c.loop-carry.bytes i c.args.last c.loop-carry.carry (omega arith) (omega arith) (omega arith) ∙ c.loop-carry.invariant.2),
-      λ k h. let ne : k ≢ i - 1 = omega arith in rw get_or-set_other (c.loop-carry.invariant.3 k h),
-    )
-
-pub returns-else-i-gt0 : goal.returns-else-i-gt0
-returns-else-i-gt0 c =
+pub loop-i-preserved : goal.loop-i-preserved
+loop-i-preserved c =
+    let i = c.loop-i.i in
+    let p : c.args.last - (i - 1) ≡ c.args.last + 1 - i = omega arith in
     record {
-      sum = λ l h.
-          let n = no_carry _ _ c.loop-carry.carry c.loop-carry.i (c.args.last + 1) (omega arith) c.loop-carry.invariant.2 h in
-          absurd (let f : ⊥ = omega arith in f);
-      after = c.loop-carry.invariant.3;
-      outside = λ l. absurd (let f : ⊥ = omega arith in f);
+      small = omega arith;
+      sum = rw (p, c.from.ensures) (add_at_place c.loop-i.bytes i c.args.last c.loop-i.carry (omega arith) (omega arith) ∙ c.loop-i.invariant.sum);
+      after = λ k h. (let ne : k ≢ i = omega arith in rw get_or-set_other (c.loop-i.invariant.after k h));
     }
 
-pub returns-after-loop-carry : goal.returns-after-loop-carry
-returns-after-loop-carry c =
-    record {
-      sum = λ l h. (let z : c.loop-carry.carry ≡ 0 = omega arith in let e = rw z at c.loop-carry.invariant.2 in omega arith);
-      after = c.loop-carry.invariant.3;
-      outside = λ l. absurd (let f : ⊥ = omega arith in f);
-    }
+pub returns-else-carry-eq0-clause-sum : goal.returns-else-carry-eq0-clause-sum
+returns-else-carry-eq0-clause-sum c within fits =
+    let i = c.loop-i.i in
+    let e : c.args.last + 1 - i ≡ c.args.last + 1 = omega arith in
+    let turn = add_at_place c.loop-i.bytes i c.args.last c.loop-i.carry (omega arith) (omega arith) ∙ c.loop-i.invariant.sum in
+    rw c.from.ensures (no_carry _ _ ((get_or c.loop-i.bytes i 0 + c.loop-i.carry) / 256) (c.args.last + 1) (rw e at turn) fits)
+
+pub returns-else-carry-eq0-clause-after : goal.returns-else-carry-eq0-clause-after
+returns-else-carry-eq0-clause-after c k h = let ne : k ≢ c.loop-i.i = omega arith in rw get_or-set_other (c.loop-i.invariant.after k h)

@@ -1,22 +1,17 @@
-use Rattle.std.proofs.Common.{◌+◌, sym, ap, add-zero, arith}
-use Rattle.bits.specs.Bits.{bit, bits_of, position}
-use Rattle.bits.proofs.Positions.{bit_past, bits_past, bit_in_byte, skip_to}
+use Rattle.std.proofs.Common.{◌≡◌, ◌+◌, get_or, add-zero, arith, rules}
+use Rattle.bits.specs.Bits.{bit, position}
+use Rattle.bits.proofs.Positions.{bit_past, bits_past, bit_in_byte}
 use Rattle.bits.proofs.cursor.BitCursor.read.Goals as goal
-use Rattle.bits.proofs.cursor.BitCursor.read.Goals.{then-self-eq7, else-self-eq7}
 
-pub returns-then-self-bytes : goal.returns-then-self-bytes
+pub returns-in_default-clause-value : goal.returns-in_default-clause-value
 unfolding bit
-returns-then-self-bytes c = record {
-  value = rw (bit_past c.args.bytes.now (position c.args.self + 0) (omega arith));
-  next = bits_past c.args.bytes.now (position c.args.self) (omega arith);
-}
+returns-in_default-clause-value c = rw (bit_past c.args.bytes.now (position c.args.self + 0) (omega (arith, c.in_default.ensures.lookup)))
 
-pub returns : goal.returns
-returns c = record {
-  value = rw add-zero (sym (bit_in_byte c.args.bytes.now c.args.self.byte c.args.self.bit (omega arith)));
-  next = skip_to (bits_of c.args.bytes.now) _ (position c.args.self)
-      (elim c.if-self-eq7.branch [
-        | then-self-eq7 w ↦ omega (arith, ap (λ n. n.0) w.next-is, ap (λ n. n.1.0) w.next-is)
-        | else-self-eq7 w ↦ omega (arith, ap (λ n. n.0) w.next-is, ap (λ n. n.1.0) w.next-is)
-      ]);
-}
+pub returns-in_default-clause-next : goal.returns-in_default-clause-next
+returns-in_default-clause-next c = bits_past c.args.bytes.now (position c.args.self) (omega (arith, c.in_default.ensures.lookup))
+
+pub returns-clause-value : goal.returns-clause-value
+returns-clause-value c =
+    let i = c.args.self in
+    let b : c.in-Some.byte.now ≡ get_or c.args.bytes.now i.byte 0 = search rules in
+    rw (add-zero, bit_in_byte c.args.bytes.now i.byte i.bit (omega arith), c.from-value.ensures, b)
