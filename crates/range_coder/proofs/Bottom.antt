@@ -7,8 +7,9 @@ use Rattle.bits.proofs.Prefixes.{Bytes, prefix_split, prefix_zero}
 use Rattle.bits.proofs.Adding.{add_fits, added_sum, added_clean}
 use Rattle.range_coder.specs.Code.{encoder_in, writer_of}
 use Rattle.range_coder.specs.Coding.{EncoderState, split, encoded, extended, narrowed}
+use Rattle.range_coder.specs.Store.{stored}
 use Rattle.range_coder.specs.declared.writer.Writer.{Writer}
-use Rattle.range_coder.proofs.Coding.{Sound, encoded_sound, encoded_spends, bypass_spends}
+use Rattle.range_coder.proofs.Coding.{Sound, encoded_sound, bypass_spends}
 use Rattle.range_coder.proofs.Probabilities.{copies}
 
 -- the bits from n on are 0
@@ -52,28 +53,25 @@ pub record Wrote (p : ℕ) (b : Bool) (w : Writer) (bytes : List ℕ) (bits rang
   pub same : encoder_in bytes bits range ≡ encoded p b (writer_of w).encoder
   pub sound : Sound (encoder_in bytes bits range)
   pub clean : Clean bytes bits
-  pub first : 8 ≤ bits
-  pub spent : bits ≤ w.bits + 7
   pub once : p ≡ 128 → bits ≤ w.bits + 1
 
-pub wrote : (p : ℕ) (b : Bool) (w : Writer) (bytes : List ℕ) (part range d : ℕ) → p ≤ 255
-    → encoder_in bytes w.bits part ≡ narrowed p b (writer_of w).encoder → Clean bytes w.bits
+pub wrote : (p : ℕ) (b : Bool) (w : Writer) (room bytes : List ℕ) (part range d : ℕ) → p ≤ 255
+    → bits_of room ≡ bits_of (stored w.store) → encoder_in bytes w.bits part ≡ narrowed p b (encoder_in room w.bits w.range) → Clean bytes w.bits
     → ((low length : ℕ) → extended 7 (record { low = low; range = part; length = length }) ≡ record { low = low * 2 ^ d; range = range; length = length + d })
     → Wrote p b w bytes (w.bits + d) range
 unfolding encoded
-wrote p b w bytes part range d q narrow clean extend =
+wrote p b w room bytes part range d q grown narrow clean extend =
     let e : EncoderState = (writer_of w).encoder in
     let n : ℕ = w.bits in
     let z = prefix_zero d (skip n (bits_of bytes)) (λ j _. clean (n + j) (omega arith)) in
     let low : prefix_value (n + d) (bits_of bytes) ≡ prefix_value n (bits_of bytes) * 2 ^ d = prefix_split n d (bits_of bytes) ∙ rw z (omega arith) in
+    let narrow₁ : encoder_in bytes n part ≡ narrowed p b e = narrow ∙ ap (λ bs. narrowed p b (record { low = prefix_value n bs; range = w.range; length = n })) grown in
     let same : encoder_in bytes (n + d) range ≡ encoded p b e =
-    (λ i. record { low = low i; range = range; length = n + d }) ∙ sym (extend (prefix_value n (bits_of bytes)) n) ∙ ap (extended 7) narrow in
+    (λ i. record { low = low i; range = range; length = n + d }) ∙ sym (extend (prefix_value n (bits_of bytes)) n) ∙ ap (extended 7) narrow₁ in
     record {
       same = same;
       sound = subst Sound (sym same) (encoded_sound p b e q (record { low = w.low; high = w.high; top = w.top }));
       clean = λ j h. clean j (omega arith);
-      first = omega (arith, w.first);
-      spent = omega (arith, ap (λ x. x.length) same, encoded_spends p b e);
       once = λ h. omega (arith, ap (λ x. x.length) (same ∙ ap (λ x. encoded x b e) h), bypass_spends b e w.low);
     }
 

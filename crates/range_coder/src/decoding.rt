@@ -33,14 +33,9 @@ impl Decoder {
     pub(crate) fn new(bytes: &[u8]) -> Decoder
         ensures { decoder_of bytes.now result ≡ start_decoder (bits_of bytes.now) }
     {
-        let offset = if bytes.len() > 0 {
-            u64::from(bytes[0])
-        } else {
-            0
-        };
         Decoder {
             range: 256,
-            offset,
+            offset: bytes.first().map_or(0, |byte| u64::from(*byte)),
             cursor: BitCursor { byte: 1, bit: 0 },
         }
     }

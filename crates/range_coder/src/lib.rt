@@ -7,6 +7,7 @@ mod adapting;
 mod contexts;
 mod decoder;
 mod decoding;
+mod narrowing;
 mod reader;
 mod reading;
 mod splitting;
@@ -19,15 +20,11 @@ pub use reader::Reader;
 pub use writer::Writer;
 
 // The range, the offset and the probabilities stay in their limits, whatever is read.
-pub fn limits_kept() -> u8
+pub fn limits_kept()
     ensures { LimitsKept }
-{
-    0
-}
+{}
 
 // What was written is read back.
-pub fn read_back() -> u8
+pub fn read_back()
     ensures { ReadBack }
-{
-    0
-}
+{}

@@ -5,6 +5,7 @@ ghost use Rattle.range_coder.specs.Coding.{encoded, extended};
 ghost use Rattle.range_coder.specs.Decisions.{adaptive, bypass, start_writer};
 
 use crate::contexts::Contexts;
+use crate::narrowing::narrow;
 use crate::store::Store;
 use crate::writer::Writer;
 
@@ -14,7 +15,8 @@ const CAPACITY: usize = 501816;
 // The range doubled until it is at least 128, and how many doublings that took.
 fn extend(mut range: u64) -> (u64, usize)
     requires { 1 ≤ range }
-    ensures { (low length : ℕ) → extended 7 (record { low = low; range = range; length = length }) ≡ record { low = low * 2 ^ result.1; range = result.0; length = length + result.1 } }
+    ensures few { result.1 ≤ 7 }
+    ensures doubles { (low length : ℕ) → extended 7 (record { low = low; range = range; length = length }) ≡ record { low = low * 2 ^ result.1; range = result.0; length = length + result.1 } }
 {
     let mut doublings = 0;
     while range < 128 {
@@ -49,7 +51,10 @@ impl Writer {
             return;
         }
         self.store.make_room(self.bits);
-        let part = self.store.narrow(self.bits, self.range, p, decision);
+        let (bits, range) = (self.bits, self.range);
+        let part = self
+            .store
+            .with_bytes(|bytes| narrow(bytes, bits, range, p, decision));
         let (range, doublings) = extend(part);
         self.range = range;
         self.bits += doublings;
@@ -75,6 +80,6 @@ impl Writer {
     pub fn finish(&self) -> &[u8]
         ensures { Finished self.now result.now }
     {
-        self.store.trimmed((self.bits + 7) / 8)
+        bits::trimmed(self.store.as_slice(), (self.bits + 7) / 8)
     }
 }

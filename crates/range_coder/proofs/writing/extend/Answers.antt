@@ -12,4 +12,7 @@ loop-range-preserved c = (
 )
 
 pub returns : goal.returns
-returns c = λ low length. sym (c.loop-range.invariant.1 low length) ∙ extended_stays 7 _ (omega arith)
+returns c = record {
+  few = omega (arith, few_doublings _ _ (c.loop-range.invariant.1 0 0));
+  doubles = λ low length. sym (c.loop-range.invariant.1 low length) ∙ extended_stays 7 _ (omega arith);
+}
