@@ -40,5 +40,5 @@ byte_prefix (suc n) bytes = 256 * byte_prefix n bytes + slice_index bytes n
 abbrev pub position : BitCursor → ℕ
 position c = 8 * c.byte + c.bit
 
-abbrev pub unread : List ℕ → BitCursor → Bits
-unread bytes c = skip (position c) (bits_of bytes)
+abbrev pub unread : BitCursor → Bits
+unread c = skip (position c) (bits_of c.bytes.now)

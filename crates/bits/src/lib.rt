@@ -8,25 +8,32 @@ mod cursor;
 
 pub use cursor::BitCursor;
 
-impl BitCursor {
+impl BitCursor<'_> {
     // At the first bit.
-    pub fn start() -> BitCursor
-        ensures { position result ≡ 0 }
+    pub fn start(bytes: &[u8]) -> BitCursor<'_>
+        ensures bytes { result.bytes.now ≡ bytes.now }
+        ensures first { position result ≡ 0 }
     {
-        BitCursor { byte: 0, bit: 0 }
+        BitCursor {
+            bytes,
+            byte: 0,
+            bit: 0,
+        }
     }
 
     // The next bit, and the cursor after it.
-    pub fn read(self, bytes: &[u8]) -> (u64, BitCursor)
-        ensures value { result.0 ≡ bit (unread bytes.now self 0) }
-        ensures next { unread bytes.now result.1 ≡ skip 1 (unread bytes.now self) }
+    pub fn read(self) -> (u64, Self)
+        ensures bytes { result.1.bytes.now ≡ self.entry.bytes.now }
+        ensures value { result.0 ≡ bit (unread self.entry 0) }
+        ensures next { unread result.1 ≡ skip 1 (unread self.entry) }
     {
-        let Some(byte) = bytes.get(self.byte) else {
+        let Some(byte) = self.bytes.get(self.byte) else {
             return (0, self);
         };
         let value = u64::from((byte >> (7 - self.bit)) % 2);
         let after = self.bit + 1;
         let next = BitCursor {
+            bytes: self.bytes,
             byte: self.byte + (after / 8) as usize,
             bit: after % 8,
         };

@@ -8,15 +8,15 @@ use Rattle.range_coder.specs.declared.decoder.Decoder.{Decoder}
 use Rattle.range_coder.specs.declared.reader.Reader.{Reader}
 use Rattle.range_coder.specs.declared.writer.Writer.{Writer}
 
-abbrev pub decoder_of : List ℕ → Decoder → DecoderState
-decoder_of bytes d = record { range = d.range; offset = d.offset; rest = unread bytes d.cursor }
+abbrev pub decoder_of : Decoder → DecoderState
+decoder_of d = record { range = d.range; offset = d.offset; rest = unread d.cursor }
 
 -- contexts in a list; there are 64 in the code, and a context past them is as at the start
 abbrev pub contexts_in : List ℕ → Contexts
 contexts_in xs c = slice_index_or xs c 128
 
 abbrev pub reader_of : Reader → ReaderState
-reader_of r = record { decoder = decoder_of r.bytes.now r.decoder; contexts = contexts_in r.contexts.probability }
+reader_of r = record { decoder = decoder_of r.decoder; contexts = contexts_in r.contexts.probability }
 
 -- the bottom of a range as the first bits of bytes
 abbrev pub encoder_in : (bytes : List ℕ) (bits range : ℕ) → EncoderState
@@ -30,7 +30,7 @@ writer_of w = record {
 
 -- a reader has read a value: over the same bytes, as the definition says
 pub record HasRead {A : Type 0} (by : ReaderState → Read A) (before after : Reader) (value : A) : Type 0 where
-  pub bytes : after.bytes.now ≡ before.bytes.now
+  pub bytes : after.decoder.cursor.bytes.now ≡ before.decoder.cursor.bytes.now
   pub is : (by (reader_of before)).value ≡ value
   pub next : (by (reader_of before)).next ≡ reader_of after
 

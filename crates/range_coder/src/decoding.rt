@@ -9,14 +9,15 @@ use crate::splitting::split;
 use bits::BitCursor;
 
 // The range doubled until it is at least 128, with bits for the offset's new low bits.
-fn renormalise(bytes: &[u8], mut range: u64, mut offset: u64, mut cursor: BitCursor) -> Decoder
+fn renormalise(mut range: u64, mut offset: u64, mut cursor: BitCursor<'_>) -> Decoder<'_>
     requires some { 1 ≤ range }
     requires high { range ≤ 256 }
     requires inside { offset < range }
-    ensures { decoder_of bytes.now result ≡ renormalised 7 (record { range = range; offset = offset; rest = unread bytes.now cursor }) }
+    ensures bytes { result.cursor.bytes.now ≡ cursor.entry.bytes.now }
+    ensures is { decoder_of result ≡ renormalised 7 (record { range = range; offset = offset; rest = unread cursor.entry }) }
 {
     while range < 128 {
-        let (bit, next) = cursor.read(bytes);
+        let (bit, next) = cursor.read();
         range *= 2;
         offset = 2 * offset + bit;
         cursor = next;
@@ -28,30 +29,36 @@ fn renormalise(bytes: &[u8], mut range: u64, mut offset: u64, mut cursor: BitCur
     }
 }
 
-impl Decoder {
+impl Decoder<'_> {
     // At the first bit: eight bits are the offset.
-    pub(crate) fn new(bytes: &[u8]) -> Decoder
-        ensures { decoder_of bytes.now result ≡ start_decoder (bits_of bytes.now) }
+    pub(crate) fn new(bytes: &[u8]) -> Decoder<'_>
+        ensures bytes { result.cursor.bytes.now ≡ bytes.now }
+        ensures start { decoder_of result ≡ start_decoder (bits_of bytes.now) }
     {
         Decoder {
             range: 256,
             offset: bytes.first().map_or(0, |byte| u64::from(*byte)),
-            cursor: BitCursor { byte: 1, bit: 0 },
+            cursor: BitCursor {
+                bytes,
+                byte: 1,
+                bit: 0,
+            },
         }
     }
 
     // The next decision, whose probability of `false` is p in 256ths, and the decoder after it.
-    pub(crate) fn decide(self, bytes: &[u8], p: u8) -> (bool, Decoder)
-        ensures value { result.0 ≡ decision p (decoder_of bytes.now self) }
-        ensures next { decoder_of bytes.now result.1 ≡ decided p (decoder_of bytes.now self) }
+    pub(crate) fn decide(self, p: u8) -> (bool, Self)
+        ensures bytes { result.1.cursor.bytes.now ≡ self.entry.cursor.bytes.now }
+        ensures value { result.0 ≡ decision p (decoder_of self.entry) }
+        ensures next { decoder_of result.1 ≡ decided p (decoder_of self.entry) }
     {
         let split = split(self.range, p);
         if self.offset < split {
-            (false, renormalise(bytes, split, self.offset, self.cursor))
+            (false, renormalise(split, self.offset, self.cursor))
         } else {
             (
                 true,
-                renormalise(bytes, self.range - split, self.offset - split, self.cursor),
+                renormalise(self.range - split, self.offset - split, self.cursor),
             )
         }
     }

@@ -4,7 +4,6 @@ use crate::decoder::Decoder;
 // Reads decisions from bytes.
 #[derive(Drop)]
 pub struct Reader<'a> {
-    pub(crate) bytes: &'a [u8],
-    pub(crate) decoder: Decoder,
+    pub(crate) decoder: Decoder<'a>,
     pub(crate) contexts: Contexts,
 }

@@ -11,11 +11,10 @@ use crate::reader::Reader;
 impl Reader<'_> {
     // A reader at the first bit of the bytes, with contexts that have seen nothing.
     pub fn new(bytes: &[u8]) -> Reader<'_>
-        ensures bytes { result.bytes.now ≡ bytes.now }
+        ensures bytes { result.decoder.cursor.bytes.now ≡ bytes.now }
         ensures start { reader_of result ≡ start_reader (bits_of bytes.now) }
     {
         Reader {
-            bytes,
             decoder: Decoder::new(bytes),
             contexts: Contexts::new(),
         }
@@ -25,7 +24,7 @@ impl Reader<'_> {
     pub fn bypass(&mut self) -> bool
         ensures { HasRead read_bypass self.old self.new result }
     {
-        let (decision, next) = self.decoder.decide(self.bytes, 128);
+        let (decision, next) = self.decoder.decide(128);
         self.decoder = next;
         decision
     }
@@ -34,7 +33,7 @@ impl Reader<'_> {
     pub fn adaptive(&mut self, context: usize) -> bool
         ensures { HasRead (read_adaptive (context % 64)) self.old self.new result }
     {
-        let (decision, next) = self.decoder.decide(self.bytes, self.contexts.get(context));
+        let (decision, next) = self.decoder.decide(self.contexts.get(context));
         self.decoder = next;
         self.contexts.learn(context, decision);
         decision

@@ -6,16 +6,18 @@ use Rattle.range_coder.proofs.decoder.Decoder.decide.Goals as goal
 
 pub returns-then-self-split : goal.returns-then-self-split
 returns-then-self-split c =
-    let d : DecoderState = decoder_of c.args.bytes.now c.args.self in
+    let d : DecoderState = decoder_of c.args.self in
     record {
       value = sym (decision_false c.args.p d (omega arith));
-      next = c.renormalise.ensures ∙ sym (decided_false c.args.p d _ c.split-split.ensures.is (omega arith));
+      bytes = c.renormalise.ensures.bytes;
+      next = c.renormalise.ensures.is ∙ sym (decided_false c.args.p d _ c.split-split.ensures.is (omega arith));
     }
 
 pub returns-else-self-split : goal.returns-else-self-split
 returns-else-self-split c =
-    let d : DecoderState = decoder_of c.args.bytes.now c.args.self in
+    let d : DecoderState = decoder_of c.args.self in
     record {
       value = sym (decision_true c.args.p d (omega arith));
-      next = c.renormalise-else-self-split.ensures ∙ sym (decided_true c.args.p d _ c.split-split.ensures.is (omega arith));
+      bytes = c.renormalise-else-self-split.ensures.bytes;
+      next = c.renormalise-else-self-split.ensures.is ∙ sym (decided_true c.args.p d _ c.split-split.ensures.is (omega arith));
     }

@@ -1,4 +1,4 @@
-use Rattle.std.proofs.Common.{◌%◌, sym, refl, ap, ◌∙◌}
+use Rattle.std.proofs.Common.{◌%◌, sym, ap, ◌∙◌}
 use Rattle.range_coder.specs.Code.{reader_of}
 use Rattle.range_coder.specs.Coding.{decided, decision}
 use Rattle.range_coder.specs.Decisions.{ReaderState, learned, read_adaptive}
@@ -13,4 +13,4 @@ returns c =
     let is = ap (λ x. decision x r.decoder) p ∙ sym c.decide-decision.ensures.value in
     let next = ap (λ x. decided x r.decoder) p ∙ sym c.decide-decision.ensures.next in
     let learns = ap (learned r.contexts q) is ∙ sym c.learn.ensures in
-    record { bytes = refl; is = is; next = λ i. record { decoder = next i; contexts = learns i } }
+    record { bytes = c.decide-decision.ensures.bytes; is = is; next = λ i. record { decoder = next i; contexts = learns i } }
