@@ -3,7 +3,7 @@ ghost use Rattle.symbols.specs.Class.{first_context};
 ghost use Rattle.symbols.specs.Reading.{level_context};
 
 // What a signed number is for, which decides its contexts.
-#[derive(Clone, Copy)]
+#[derive(Clone, Copy, Debug, PartialEq, Eq)]
 pub enum NumberClass {
     MotionX,
     MotionY,

@@ -11,8 +11,6 @@ pub use class::NumberClass;
 pub use reading::{read_byte, read_levels, read_signed};
 pub use writing::{write_byte, write_levels, write_signed};
 
-pub fn symbols_read_back() -> u8
+pub fn symbols_read_back()
     ensures { SymbolsReadBack }
-{
-    0
-}
+{}

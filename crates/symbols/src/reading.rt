@@ -55,10 +55,11 @@ pub fn read_signed(reader: &mut Reader, class: NumberClass) -> i32
     ensures small { unsigned_abs result ≤ largest }
 {
     let size = read_number(reader, class.first_context()) as i32;
-    if size == 0 {
-        return size;
+    if size != 0 && reader.bypass() {
+        -size
+    } else {
+        size
     }
-    if reader.bypass() { -size } else { size }
 }
 
 // Sixteen levels.
@@ -67,8 +68,8 @@ pub fn read_levels(reader: &mut Reader) -> [i32; 16]
     ensures small { Sayable result }
 {
     let mut levels = [0; 16];
-    for k in 0..16 {
-        levels[k] = read_signed(reader, NumberClass::of_level(k));
+    for (k, level) in levels.iter_mut().enumerate() {
+        *level = read_signed(reader, NumberClass::of_level(k));
     }
     levels
 }

@@ -71,7 +71,7 @@ pub fn write_signed(writer: &mut Writer, class: NumberClass, value: i32)
 pub fn write_levels(writer: &mut Writer, levels: [i32; 16])
     ensures { HasWritten 1936 (levels_decisions 0 levels) writer.old writer.new }
 {
-    for k in 0..16 {
-        write_signed(writer, NumberClass::of_level(k), levels[k]);
+    for (k, level) in levels.iter().enumerate() {
+        write_signed(writer, NumberClass::of_level(k), *level);
     }
 }

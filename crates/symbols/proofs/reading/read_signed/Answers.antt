@@ -6,6 +6,7 @@ use Rattle.symbols.proofs.ReadSteps.{signed_zero, signed_of, signed_small}
 use Rattle.symbols.specs.Promise.{largest}
 use Rattle.symbols.specs.Reading.{read_signed}
 use Rattle.symbols.proofs.reading.read_signed.Goals as goal
+use Rattle.symbols.proofs.reading.read_signed.Goals.{else-size-ne0-via-then-size-ne0+else-bypass, else-size-ne0-via-else-size-ne0}
 
 plain : (n : ℕ) → n ≤ largest → pos n ≡ to_z w32 n
 plain n h = omega (arith, ints)
@@ -19,17 +20,16 @@ named c c₁ z z₁ a b f e e₁ =
     let r : HasRead (read_signed c₁) a b z₁ = subst (λ x. HasRead (read_signed x) a b z₁) e (subst (HasRead (read_signed c) a b) e₁ f) in
     record { read = r; small = signed_small c₁ z₁ a b r }
 
-pub returns-then-size-eq0 : goal.returns-then-size-eq0
-returns-then-size-eq0 c =
-    let n = c.read_number-size in
-    named _ _ _ _ _ _ (signed_zero _ n.result _ _ n.ensures.read c.if-size-eq0.true) c.first_context.ensures.is (plain n.result n.ensures.small)
-
 pub returns-then-bypass : goal.returns-then-bypass
 returns-then-bypass c =
     let n = c.read_number-size in
-    named _ _ _ _ _ _ (signed_of _ n.result true _ _ _ n.ensures.read c.if-size-eq0.false c.if-bypass.ensures) c.first_context.ensures.is (negated n.result n.ensures.small)
+    named _ _ _ _ _ _ (signed_of _ n.result true _ _ _ n.ensures.read c.if-size-ne0.true c.if-bypass.ensures) c.first_context.ensures.is (negated n.result n.ensures.small)
 
-pub returns-else-bypass : goal.returns-else-bypass
-returns-else-bypass c =
+pub returns-else-size-ne0 : goal.returns-else-size-ne0
+returns-else-size-ne0 c =
     let n = c.read_number-size in
-    named _ _ _ _ _ _ (signed_of _ n.result false _ _ _ n.ensures.read c.if-size-eq0.false c.if-bypass.ensures) c.first_context.ensures.is (plain n.result n.ensures.small)
+    let read : HasRead (read_signed c.first_context.result) c.args.reader.now c.else-size-ne0.reader (pos n.result) = elim c.else-size-ne0.branch [
+      | else-size-ne0-via-then-size-ne0+else-bypass w ↦ rw w.reader-is (signed_of _ n.result false _ _ _ n.ensures.read w.if-size-ne0.true w.if-bypass.ensures)
+      | else-size-ne0-via-else-size-ne0 w ↦ rw w.reader-is (signed_zero _ n.result _ _ n.ensures.read w.if-size-ne0.false)
+    ] in
+    named _ _ _ _ _ _ read c.first_context.ensures.is (plain n.result n.ensures.small)
