@@ -39,7 +39,7 @@ impl Contexts {
     pub(crate) fn learn(&mut self, context: usize, decision: bool)
         ensures { contexts_in self.new.probability ≡ learned (contexts_in self.old.probability) (context % 64) decision }
     {
-        let p = self.get(context);
-        self.probability[context % 64] = adapted(p, decision);
+        let p = &mut self.probability[context % 64];
+        *p = adapted(*p, decision);
     }
 }

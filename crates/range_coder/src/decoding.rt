@@ -8,7 +8,8 @@ use crate::decoder::Decoder;
 use crate::splitting::split;
 use bits::BitCursor;
 
-// The range doubled until it is at least 128, with bits for the offset's new low bits.
+// The range doubled until it is at least 128, with bits for the offset's new low bits. The loop has at most seven
+// rounds, and the decoder goes by value, with the place of the next bit in it: both are rules of the project.
 fn renormalise(mut range: u64, mut offset: u64, mut cursor: BitCursor<'_>) -> Decoder<'_>
     requires some { 1 ≤ range }
     requires high { range ≤ 256 }

@@ -36,14 +36,14 @@ impl Store {
         ensures same { bits_of (stored self.new) ≡ bits_of (stored self.old) }
         ensures room { bits + 7 ≤ 8 * length (stored self.new) }
     {
-        if let Store::Few(few) = self {
-            if bits + 7 > 8 * few.len() {
-                *self = Store::Many(grown(few));
-            }
+        if let Store::Few(few) = self
+            && bits + 7 > 8 * few.len()
+        {
+            *self = Store::Many(grown(few));
         }
     }
 
-    // What f does with all of the bytes.
+    // What f makes of all the bytes. They go to a closure, since a proof can't follow a `&mut [u8]` out of the match.
     pub(crate) fn with_bytes<R, F: FnOnce(&mut [u8]) -> R>(&mut self, f: F) -> R
         requires { FnOnceTakesAtMut F.FnOnce f (stored self.old) }
         ensures sized { length (stored self.old) ≡ size_of self.old → length (stored self.new) ≡ size_of self.new }

@@ -12,7 +12,8 @@ use crate::writer::Writer;
 // The bits that the most bytes take, less one byte, so that the last decision finds room.
 const CAPACITY: usize = 501816;
 
-// The range doubled until it is at least 128, and how many doublings that took.
+// The range doubled until it is at least 128, and how many doublings that took: at most seven rounds of a loop, as a
+// rule of the project has it.
 fn extend(mut range: u64) -> (u64, usize)
     requires { 1 ≤ range }
     ensures few { result.1 ≤ 7 }

@@ -8,7 +8,7 @@ ghost use Rattle.symbols.specs.Reading.{read_bits, read_levels, read_number, rea
 use crate::class::NumberClass;
 use range_coder::Reader;
 
-// How many decisions are true before one is false, at most 15.
+// How many decisions are true before one is false, at most 15. A loop, as in `read_bits`.
 fn read_prefix(reader: &mut Reader, context: usize) -> usize
     requires { context ≤ 48 }
     ensures read { HasRead (read_prefix 15 context) reader.old reader.new result }
@@ -22,6 +22,7 @@ fn read_prefix(reader: &mut Reader, context: usize) -> usize
     15
 }
 
+// So many bits, the high one first. A loop: what `fold` leaves of a reader that its closure changes, no proof knows.
 fn read_bits(reader: &mut Reader, count: usize) -> u32
     requires { count ≤ 15 }
     ensures read { HasRead (read_bits count 0) reader.old reader.new result }

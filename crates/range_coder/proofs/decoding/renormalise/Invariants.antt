@@ -11,7 +11,7 @@ invariant-loop-range l = record {
   high : l.range ≤ 256;
   inside : l.offset < l.range;
   same : renormalised 7 (record { range = l.range; offset = l.offset; rest = unread l.cursor })
-      ≡ renormalised 7 (record { range = l.initial.range; offset = l.initial.offset; rest = unread l.initial.cursor })
+      ≡ renormalised 7 (record { range = l.initial.range; offset = l.initial.offset; rest = unread l.initial.cursor });
 }
 
 abbrev pub decreases-loop-range : goal.decreases-loop-range
