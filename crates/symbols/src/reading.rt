@@ -9,11 +9,11 @@ use crate::class::NumberClass;
 use range_coder::Reader;
 
 // How many decisions are true before one is false, at most 15. A loop, as in `read_bits`.
-fn read_prefix(reader: &mut Reader, context: usize) -> usize
-    requires { context ≤ 48 }
-    ensures read { HasRead (read_prefix 15 context) reader.old reader.new result }
+fn read_prefix(reader: &mut Reader, class: NumberClass) -> usize
+    ensures read { HasRead (read_prefix 15 (first_context class)) reader.old reader.new result }
     ensures small { result ≤ 15 }
 {
+    let context = class.first_context();
     for k in 0..15 {
         if !reader.adaptive(context + k) {
             return k;
@@ -35,12 +35,11 @@ fn read_bits(reader: &mut Reader, count: usize) -> u32
     value
 }
 
-fn read_number(reader: &mut Reader, context: usize) -> u32
-    requires { context ≤ 48 }
-    ensures read { HasRead (read_number context) reader.old reader.new result }
+fn read_number(reader: &mut Reader, class: NumberClass) -> u32
+    ensures read { HasRead (read_number (first_context class)) reader.old reader.new result }
     ensures small { result ≤ largest }
 {
-    let length = read_prefix(reader, context);
+    let length = read_prefix(reader, class);
     (1 << length) - 1 + read_bits(reader, length)
 }
 
@@ -55,7 +54,7 @@ pub fn read_signed(reader: &mut Reader, class: NumberClass) -> i32
     ensures read { HasRead (read_signed (first_context class)) reader.old reader.new result }
     ensures small { unsigned_abs result ≤ largest }
 {
-    let size = read_number(reader, class.first_context()) as i32;
+    let size = read_number(reader, class) as i32;
     if size != 0 && reader.bypass() {
         -size
     } else {

@@ -18,11 +18,11 @@ fn exponent(value: u32) -> usize
 }
 
 // So many decisions that are true, and one that is false unless there are 15.
-fn write_prefix(writer: &mut Writer, context: usize, length: usize)
-    requires fits { context ≤ 48 }
-    requires short { length ≤ 15 }
-    ensures { HasWritten 105 (prefix_decisions 15 length context) writer.old writer.new }
+fn write_prefix(writer: &mut Writer, class: NumberClass, length: usize)
+    requires { length ≤ 15 }
+    ensures { HasWritten 105 (prefix_decisions 15 length (first_context class)) writer.old writer.new }
 {
+    let context = class.first_context();
     for i in 0..length {
         writer.adaptive(context + i, true);
     }
@@ -41,13 +41,12 @@ fn write_bits(writer: &mut Writer, count: usize, value: u32)
     }
 }
 
-fn write_number(writer: &mut Writer, context: usize, value: u32)
-    requires fits { context ≤ 48 }
-    requires small { value ≤ 2 ^ 31 }
-    ensures { HasWritten 120 (number_decisions context value) writer.old writer.new }
+fn write_number(writer: &mut Writer, class: NumberClass, value: u32)
+    requires { value ≤ 2 ^ 31 }
+    ensures { HasWritten 120 (number_decisions (first_context class) value) writer.old writer.new }
 {
     let length = exponent(value);
-    write_prefix(writer, context, length);
+    write_prefix(writer, class, length);
     write_bits(writer, length, value + 1 - (1 << length));
 }
 
@@ -62,7 +61,7 @@ pub fn write_byte(writer: &mut Writer, value: u8)
 pub fn write_signed(writer: &mut Writer, class: NumberClass, value: i32)
     ensures { HasWritten 121 (signed_decisions (first_context class) value) writer.old writer.new }
 {
-    write_number(writer, class.first_context(), value.unsigned_abs());
+    write_number(writer, class, value.unsigned_abs());
     if value != 0 {
         writer.bypass(value < 0);
     }

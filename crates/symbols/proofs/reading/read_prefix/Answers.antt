@@ -4,12 +4,15 @@ use Rattle.symbols.proofs.reading.read_prefix.Goals as goal
 
 pub returns-then-not-adaptive : goal.returns-then-not-adaptive
 returns-then-not-adaptive c = record {
-  read = prefix_left_stops c.args.context c.loop-k.k _ _ _ c.requires (omega arith) c.loop-k.invariant c.if-not-adaptive.ensures;
+  read = rw (← c.first_context-context.ensures.is) (prefix_left_stops c.first_context-context.result c.loop-k.k _ _ _ (omega arith) (omega arith) c.loop-k.invariant c.if-not-adaptive.ensures);
   small = omega arith;
 }
 
 pub loop-k-preserved : goal.loop-k-preserved
-loop-k-preserved c = prefix_left_more c.args.context c.loop-k.k _ _ _ c.requires (omega arith) c.loop-k.invariant c.if-not-adaptive.ensures
+loop-k-preserved c = prefix_left_more c.first_context-context.result c.loop-k.k _ _ _ (omega arith) (omega arith) c.loop-k.invariant c.if-not-adaptive.ensures
 
 pub returns : goal.returns
-returns c = record { read = prefix_left_none c.args.context c.loop-k.k _ _ (omega arith) c.loop-k.invariant; small = omega arith }
+returns c = record {
+  read = rw (← c.first_context-context.ensures.is) (prefix_left_none c.first_context-context.result c.loop-k.k _ _ (omega arith) c.loop-k.invariant);
+  small = omega arith;
+}
