@@ -7,6 +7,7 @@ ghost use Rattle.range_coder.specs.Coding.{narrowed};
 use crate::splitting::split;
 
 // Narrows the range to the part of a decision: the bottom, which the first bits are, and the width, which is the answer.
+// It takes fields and not a writer, since a writer's invariant doesn't hold of a range that is still to be doubled.
 pub(crate) fn narrow(bytes: &mut [u8], bits: usize, range: u64, p: u8, decision: bool) -> u64
     requires room { (1 ≤ bits) × (bits ≤ 8 * length bytes.old) }
     requires limits { (128 ≤ range) × (range ≤ 256) }

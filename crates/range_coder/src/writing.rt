@@ -52,10 +52,9 @@ impl Writer {
             return;
         }
         self.store.make_room(self.bits);
-        let (bits, range) = (self.bits, self.range);
         let part = self
             .store
-            .with_bytes(|bytes| narrow(bytes, bits, range, p, decision));
+            .with_bytes(|bytes| narrow(bytes, self.bits, self.range, p, decision));
         let (range, doublings) = extend(part);
         self.range = range;
         self.bits += doublings;
