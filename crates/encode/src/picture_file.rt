@@ -30,7 +30,7 @@ fn take_picture(source: &mut Source, layout: Layout, picture: &mut [u8]) -> Resu
         match layout.locate(front) {
             Ok(at) => {
                 let pixels = &front[at.start..at.end];
-                pictures::pad_picture(pixels, layout.width(), layout.height(), picture);
+                pictures::pad_picture(pixels, layout.size(), picture);
                 source.take(at.next);
                 return Ok(true);
             }
@@ -56,8 +56,8 @@ fn code_pictures(
     wish: &Wish,
 ) -> Result<(), Refusal> {
     let header = VideoHeader {
-        across: pictures::block_count(layout.width()),
-        down: pictures::block_count(layout.height()),
+        across: pictures::block_count(layout.size().width),
+        down: pictures::block_count(layout.size().height),
         step: wish.step.unwrap_or(USUAL_STEP),
     };
     let mut coder = Coder::new(rt, header, wish)?;

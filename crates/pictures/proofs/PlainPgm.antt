@@ -5,9 +5,11 @@ use Rattle.pictures.proofs.PgmChecked.{all_there, header_then_pixels}
 use Rattle.pictures.specs.Bytes.{blank, size_of}
 use Rattle.pictures.specs.Pgm.{comment_after, gap, in_gap, number_at, pgm_header_of, pgm_of, plain_header}
 use Rattle.pictures.specs.Faults.{then}
+use Rattle.pictures.specs.Picture.{pixel_count}
 use Rattle.pictures.specs.Layout.{located, picture_at}
 use Rattle.pictures.specs.declared.forms.Layout.TheVariants.{Pictures}
 use Rattle.pictures.specs.declared.forms.Pgm.{Pgm}
+use Rattle.pictures.specs.declared.forms.Size.{Size}
 use Rattle.pictures.specs.declared.pgm_parsing.Number.{Number}
 use Rattle.std.proofs.lemmas.Fmt.{decimal_nonempty}
 use Rattle.std.proofs.lemmas.List.{drop_at, drop-drop, get_or_at, length-append, take_at}
@@ -63,7 +65,7 @@ module _ (bytes front rest : List ℕ) (b c n offset : ℕ) (is : bytes ≡ fron
 module _ (bytes : List ℕ) (width height max : Number) (magic : bytes_eq (take 2 bytes) (codes "P5") ≡ true) (wide : number_at bytes 2 ≡ Ok width)
     (high : number_at bytes width.end ≡ Ok height) (most : number_at bytes height.end ≡ Ok max) (grey : max.value ≡ 255)
     (delimiter : blank (get_or bytes max.end 0) ≡ true) where
-  pub header_read : pgm_header_of bytes ≡ Ok (record { width = width.value; height = height.value; start = max.end + 1; end = max.end + 1 + width.value * height.value })
+  pub header_read : pgm_header_of bytes ≡ Ok (record { size = record { width = width.value; height = height.value }; start = max.end + 1; end = max.end + 1 + width.value * height.value })
   header_read = rw (magic, wide, high, most, eq-eqb max.value 255 grey, delimiter)
 
 -- and all of whose pixels are there
@@ -71,117 +73,117 @@ module _ (bytes : List ℕ) (picture : Pgm) (read : pgm_header_of bytes ≡ Ok p
   pub picture_read : pgm_of bytes ≡ Ok picture
   picture_read = sym (header_then_pixels bytes) ∙ ap (λ r. then r (all_there bytes)) read ∙ rw (le-leb _ (length bytes) enough)
 
-  pub picture_located : picture_at picture.width picture.height bytes ≡ Ok (record { start = picture.start; end = picture.end; next = picture.end })
-  picture_located = rw (read, eq-eqb picture.width _ refl, eq-eqb picture.height _ refl, le-leb _ (length bytes) enough)
+  pub picture_located : picture_at picture.size bytes ≡ Ok (record { start = picture.start; end = picture.end; next = picture.end })
+  picture_located = rw (read, eq-eqb picture.size.width _ refl, eq-eqb picture.size.height _ refl, le-leb _ (length bytes) enough)
 
 decimal_255 : decimal 255 ≡ codes "255"
 unfolding digits
 decimal_255 = refl
 
 -- where the numbers of a plain header end
-abbrev at_height : (width : ℕ) → ℕ
-at_height width = 3 + length (decimal width)
+abbrev at_height : Size → ℕ
+at_height size = 3 + length (decimal size.width)
 
-abbrev at_max : (width height : ℕ) → ℕ
-at_max width height = at_height width + 1 + length (decimal height)
+abbrev at_max : Size → ℕ
+at_max size = at_height size + 1 + length (decimal size.height)
 
-abbrev at_delimiter : (width height : ℕ) → ℕ
-at_delimiter width height = at_max width height + 1 + 3
+abbrev at_delimiter : Size → ℕ
+at_delimiter size = at_max size + 1 + 3
 
 -- and what stands before
-before_height : (width : ℕ) → List ℕ
-before_height width = codes "P5\n" ++ decimal width
+before_height : Size → List ℕ
+before_height size = codes "P5\n" ++ decimal size.width
 
-before_max : (width height : ℕ) → List ℕ
-before_max width height = codes "P5\n" ++ (decimal width ++ (codes " " ++ decimal height))
+before_max : Size → List ℕ
+before_max size = codes "P5\n" ++ (decimal size.width ++ (codes " " ++ decimal size.height))
 
-before_delimiter : (width height : ℕ) → List ℕ
-before_delimiter width height = before_max width height ++ codes "\n255"
+before_delimiter : Size → List ℕ
+before_delimiter size = before_max size ++ codes "\n255"
 
-module _ (width height : ℕ) where
-  long_height : length (before_height width) ≡ at_height width
+module _ (size : Size) where
+  long_height : length (before_height size) ≡ at_height size
   unfolding before_height
   long_height = omega arith
 
-  long_max : length (before_max width height) ≡ at_max width height
+  long_max : length (before_max size) ≡ at_max size
   unfolding before_max
   long_max = simp length-append (omega arith)
 
-  long_delimiter : length (before_delimiter width height) ≡ at_delimiter width height
+  long_delimiter : length (before_delimiter size) ≡ at_delimiter size
   unfolding before_delimiter
   long_delimiter = simp length-append (omega (arith, long_max))
 
-  long_header : at_delimiter width height + 1 ≡ length (plain_header width height)
+  long_header : at_delimiter size + 1 ≡ length (plain_header size)
   long_header = simp length-append (omega arith)
 
-module _ (width height : ℕ) (tail : List ℕ) where
+module _ (size : Size) (tail : List ℕ) where
   bytes : List ℕ
-  bytes = plain_header width height ++ tail
+  bytes = plain_header size ++ tail
 
-  from_width : bytes ≡ codes "P5" ++ 10 ∷ (decimal width ++ 32 ∷ (decimal height ++ (codes "\n255\n" ++ tail)))
+  from_width : bytes ≡ codes "P5" ++ 10 ∷ (decimal size.width ++ 32 ∷ (decimal size.height ++ (codes "\n255\n" ++ tail)))
   unfolding bytes
   from_width = simp append_assoc
 
-  from_height : bytes ≡ before_height width ++ 32 ∷ (decimal height ++ 10 ∷ (codes "255\n" ++ tail))
+  from_height : bytes ≡ before_height size ++ 32 ∷ (decimal size.height ++ 10 ∷ (codes "255\n" ++ tail))
   unfolding bytes before_height
   from_height = simp append_assoc
 
-  from_max : bytes ≡ before_max width height ++ 10 ∷ (codes "255" ++ 10 ∷ tail)
+  from_max : bytes ≡ before_max size ++ 10 ∷ (codes "255" ++ 10 ∷ tail)
   unfolding bytes before_max
   from_max = simp append_assoc
 
-  from_delimiter : bytes ≡ before_delimiter width height ++ 10 ∷ tail
+  from_delimiter : bytes ≡ before_delimiter size ++ 10 ∷ tail
   unfolding bytes before_max before_delimiter
   from_delimiter = simp append_assoc
 
-  width_read : 0 < width → width < 2 ^ 16 → number_at bytes 2 ≡ Ok (record { value = width; start = 3; end = at_height width })
-  width_read p w = number_plain bytes (codes "P5") _ 10 32 width 2 from_width refl refl refl refl p w
+  width_read : 0 < size.width → size.width < 2 ^ 16 → number_at bytes 2 ≡ Ok (record { value = size.width; start = 3; end = at_height size })
+  width_read p w = number_plain bytes (codes "P5") _ 10 32 size.width 2 from_width refl refl refl refl p w
 
-  height_read : 0 < height → height < 2 ^ 16 → number_at bytes (at_height width) ≡ Ok (record { value = height; start = at_height width + 1; end = at_max width height })
-  height_read q h = number_plain bytes (before_height width) _ 32 10 height _ from_height (long_height width height) refl refl refl q h
+  height_read : 0 < size.height → size.height < 2 ^ 16 → number_at bytes (at_height size) ≡ Ok (record { value = size.height; start = at_height size + 1; end = at_max size })
+  height_read q h = number_plain bytes (before_height size) _ 32 10 size.height _ from_height (long_height size) refl refl refl q h
 
-  max_read : number_at bytes (at_max width height) ≡ Ok (record { value = 255; start = at_max width height + 1; end = at_delimiter width height })
+  max_read : number_at bytes (at_max size) ≡ Ok (record { value = 255; start = at_max size + 1; end = at_delimiter size })
   max_read =
-      let is : bytes ≡ before_max width height ++ 10 ∷ (decimal 255 ++ 10 ∷ tail) = from_max ∙ ap (λ ds. before_max width height ++ 10 ∷ (ds ++ 10 ∷ tail)) (sym decimal_255) in
-      number_plain bytes (before_max width height) tail 10 10 255 _ is (long_max width height) refl refl refl (omega arith) (omega arith)
-      ∙ ap (λ ds. Ok (record { value = 255; start = at_max width height + 1; end = at_max width height + 1 + length ds })) decimal_255
+      let is : bytes ≡ before_max size ++ 10 ∷ (decimal 255 ++ 10 ∷ tail) = from_max ∙ ap (λ ds. before_max size ++ 10 ∷ (ds ++ 10 ∷ tail)) (sym decimal_255) in
+      number_plain bytes (before_max size) tail 10 10 255 _ is (long_max size) refl refl refl (omega arith) (omega arith)
+      ∙ ap (λ ds. Ok (record { value = 255; start = at_max size + 1; end = at_max size + 1 + length ds })) decimal_255
 
-  delimiter_read : blank (get_or bytes (at_delimiter width height) 0) ≡ true
-  delimiter_read = ap blank (ap (λ bs. get_or bs (at_delimiter width height) 0) from_delimiter ∙ get_or_at (before_delimiter width height) 10 tail 0 _ (long_delimiter width height))
+  delimiter_read : blank (get_or bytes (at_delimiter size) 0) ≡ true
+  delimiter_read = ap blank (ap (λ bs. get_or bs (at_delimiter size) 0) from_delimiter ∙ get_or_at (before_delimiter size) 10 tail 0 _ (long_delimiter size))
 
-  long_bytes : length bytes ≡ at_delimiter width height + 1 + length tail
+  long_bytes : length bytes ≡ at_delimiter size + 1 + length tail
   unfolding bytes
-  long_bytes = length-append (plain_header width height) tail ∙ ap (λ n. n + length tail) (sym (long_header width height))
+  long_bytes = length-append (plain_header size) tail ∙ ap (λ n. n + length tail) (sym (long_header size))
 
   magic_read : bytes_eq (take 2 bytes) (codes "P5") ≡ true
   unfolding bytes
   magic_read = refl
 
 -- A PICTURE WITH A PLAIN HEADER, whose pixels stand after it
-module _ (width height : ℕ) (pixels more : List ℕ) (p : 0 < width) (w : width < 2 ^ 16) (q : 0 < height) (h : height < 2 ^ 16) (l : length pixels ≡ width * height) where
+module _ (size : Size) (pixels more : List ℕ) (p : 0 < size.width) (w : size.width < 2 ^ 16) (q : 0 < size.height) (h : size.height < 2 ^ 16) (l : length pixels ≡ pixel_count size) where
   tail : List ℕ
   tail = pixels ++ more
 
-  read : pgm_header_of (bytes width height tail)
-      ≡ Ok (record { width = width; height = height; start = at_delimiter width height + 1; end = at_delimiter width height + 1 + width * height })
+  read : pgm_header_of (bytes size tail)
+      ≡ Ok (record { size = size; start = at_delimiter size + 1; end = at_delimiter size + 1 + pixel_count size })
   read =
-      header_read (bytes width height tail) _ _ _ (magic_read width height tail) (width_read width height tail p w) (height_read width height tail q h)
-      (max_read width height tail) refl (delimiter_read width height tail)
+      header_read (bytes size tail) _ _ _ (magic_read size tail) (width_read size tail p w) (height_read size tail q h)
+      (max_read size tail) refl (delimiter_read size tail)
 
-  enough : at_delimiter width height + 1 + width * height ≤ length (bytes width height tail)
+  enough : at_delimiter size + 1 + pixel_count size ≤ length (bytes size tail)
   unfolding tail
-  enough = omega (arith, long_bytes width height tail, length-append pixels more)
+  enough = omega (arith, long_bytes size tail, length-append pixels more)
 
-  pub plain_picture : pgm_of (plain_header width height ++ (pixels ++ more))
-      ≡ Ok (record { width = width; height = height; start = length (plain_header width height); end = length (plain_header width height) + length pixels })
+  pub plain_picture : pgm_of (plain_header size ++ (pixels ++ more))
+      ≡ Ok (record { size = size; start = length (plain_header size); end = length (plain_header size) + length pixels })
   unfolding bytes tail
   plain_picture =
-      picture_read (bytes width height tail) _ read enough
-      ∙ (λ i. Ok (record { width = width; height = height; start = long_header width height i; end = long_header width height i + sym l i }))
+      picture_read (bytes size tail) _ read enough
+      ∙ (λ i. Ok (record { size = size; start = long_header size i; end = long_header size i + sym l i }))
 
-  pub plain_picture_located : located (Pictures width height) (plain_header width height ++ (pixels ++ more))
-      ≡ Ok (record { start = length (plain_header width height); end = length (plain_header width height) + length pixels; next = length (plain_header width height) + length pixels })
+  pub plain_picture_located : located (Pictures size) (plain_header size ++ (pixels ++ more))
+      ≡ Ok (record { start = length (plain_header size); end = length (plain_header size) + length pixels; next = length (plain_header size) + length pixels })
   unfolding bytes tail
   plain_picture_located =
-      picture_located (bytes width height tail) _ read enough
-      ∙ (λ i. Ok (record { start = long_header width height i; end = long_header width height i + sym l i; next = long_header width height i + sym l i }))
+      picture_located (bytes size tail) _ read enough
+      ∙ (λ i. Ok (record { start = long_header size i; end = long_header size i + sym l i; next = long_header size i + sym l i }))

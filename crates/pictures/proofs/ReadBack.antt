@@ -4,6 +4,7 @@ use Rattle.pictures.proofs.Numbers.{digits_of, size_decimal}
 use Rattle.pictures.specs.Bytes.{cut, put_before}
 use Rattle.pictures.specs.Y4m.{header_of, header_text, line_of, spaced, with_tags, written_words}
 use Rattle.pictures.specs.declared.forms.FrameRate.{FrameRate}
+use Rattle.pictures.specs.declared.forms.Size.{Size}
 use Rattle.std.proofs.ByRecursion.{All-append}
 use Rattle.std.proofs.lemmas.Bool.{and_parts, cases_eq, eq-eqb, eqb-false, leb-true, ne_eqb, not-true}
 use Rattle.std.specs.Char.{is_ascii_digit}
@@ -96,17 +97,17 @@ spaceless_by (c ∷ cs) h =
     (eqb-false c 32 (not-true (eqb c 32) parts.0), spaceless_by cs parts.1)
 
 -- THE HEADER
-module _ (width height : ℕ) (rate : FrameRate) (w : width < 2 ^ 16) (h : height < 2 ^ 16) (f : rate.frames < 2 ^ 32) (s : rate.seconds < 2 ^ 32) where
+module _ (size : Size) (rate : FrameRate) (w : size.width < 2 ^ 16) (h : size.height < 2 ^ 16) (f : rate.frames < 2 ^ 32) (s : rate.seconds < 2 ^ 32) where
   spaceless_rate : Spaceless (decimal rate.frames ++ (codes ":" ++ decimal rate.seconds))
   spaceless_rate = All-append _ _ _ (spaceless_number _ (omega arith)) (λ e. omega arith, spaceless_number _ (omega arith))
 
-  written_spaceless : AllByRecursion Spaceless (written_words width height rate)
+  written_spaceless : AllByRecursion Spaceless (written_words size rate)
   written_spaceless = (
     spaceless_by (codes "YUV4MPEG2") refl,
     (
-      (λ e. omega arith, spaceless_number width (omega arith)),
+      (λ e. omega arith, spaceless_number size.width (omega arith)),
       (
-        (λ e. omega arith, spaceless_number height (omega arith)),
+        (λ e. omega arith, spaceless_number size.height (omega arith)),
         (
           (λ e. omega arith, spaceless_rate),
           (spaceless_by (codes "Ip") refl, (spaceless_by (codes "A1:1") refl, (spaceless_by (codes "Cmono") refl, tt))),
@@ -115,9 +116,9 @@ module _ (width height : ℕ) (rate : FrameRate) (w : width < 2 ^ 16) (h : heigh
     ),
   )
 
-  header_cut : cut (header_text width height rate) ≡ written_words width height rate
+  header_cut : cut (header_text size rate) ≡ written_words size rate
   header_cut = cut_word _ _ written_spaceless.0 written_spaceless.1
 
-  pub header_back : 0 < width → 0 < height → header_of (header_text width height rate) ≡ Ok (record { width = width; height = height; chroma = 0 })
+  pub header_back : 0 < size.width → 0 < size.height → header_of (header_text size rate) ≡ Ok (record { size = size; chroma = 0 })
   unfolding with_tags
-  header_back p q = rw (header_cut, size_decimal width p w, size_decimal height q h)
+  header_back p q = rw (header_cut, size_decimal size.width p w, size_decimal size.height q h)

@@ -3,6 +3,7 @@ use Rattle.std.specs.Prelude.{ℕ, ◌+◌, ◌*◌, cond, ◌&&◌, List, lengt
 use Rattle.pictures.specs.Bytes.{not_byte}
 use Rattle.pictures.specs.Faults.{required, then}
 use Rattle.pictures.specs.Pgm.{pgm_header_of}
+use Rattle.pictures.specs.Picture.{pixel_count}
 use Rattle.pictures.specs.Y4m.{frame_line, header_of}
 use Rattle.pictures.specs.declared.error.Fault.TheVariants.{CutShort, NoFrame, NoLineEnd, OtherSize}
 use Rattle.pictures.specs.declared.error.PictureError.{PictureError}
@@ -12,6 +13,7 @@ use Rattle.pictures.specs.declared.forms.Layout.{Layout}
 use Rattle.pictures.specs.declared.forms.Layout.TheVariants.{Frames, Pictures}
 use Rattle.pictures.specs.declared.forms.Opening.{Opening}
 use Rattle.pictures.specs.declared.forms.PictureAt.{PictureAt}
+use Rattle.pictures.specs.declared.forms.Size.{Size}
 use Rattle.pictures.specs.declared.forms.Y4mHeader.{Y4mHeader}
 use Rattle.std.specs.List.{prefix_len}
 use Rattle.std.specs.Str.{bytes_eq}
@@ -35,22 +37,18 @@ y4m_opening bytes =
 abbrev pub pgm_opening : List ℕ → Result Opening PictureError
 pgm_opening bytes =
     then (pgm_header_of bytes) λ first.
-    Ok (record { layout = Pictures first.width first.height; start = 0 })
+    Ok (record { layout = Pictures first.size; start = 0 })
 
-abbrev pub width_of : Layout → ℕ
-width_of (Frames header) = header.width
-width_of (Pictures width height) = width
-
-abbrev pub height_of : Layout → ℕ
-height_of (Frames header) = header.height
-height_of (Pictures width height) = height
+abbrev pub layout_size : Layout → Size
+layout_size (Frames header) = header.size
+layout_size (Pictures size) = size
 
 -- A FRAME is a line, its luma and its chroma. Of the chroma nothing is read.
 abbrev pub frame_at : Y4mHeader → List ℕ → Result PictureAt PictureError
 frame_at header bytes =
     let line = line_length bytes in
     let start = line + 1 in
-    let end = start + header.width * header.height in
+    let end = start + pixel_count header.size in
     let next = end + header.chroma in
     then (required (nat_lt line (length bytes)) CutShort (length bytes)) λ _.
     then (required (frame_line (take line bytes)) NoFrame 0) λ _.
@@ -58,13 +56,13 @@ frame_at header bytes =
     Ok (record { start = start; end = end; next = next })
 
 -- A PICTURE OF A SEQUENCE has the size of the first.
-abbrev pub picture_at : (width height : ℕ) → List ℕ → Result PictureAt PictureError
-picture_at width height bytes =
+abbrev pub picture_at : Size → List ℕ → Result PictureAt PictureError
+picture_at size bytes =
     then (pgm_header_of bytes) λ picture.
-    then (required (picture.width == width && picture.height == height) OtherSize 0) λ _.
+    then (required (picture.size.width == size.width && picture.size.height == size.height) OtherSize 0) λ _.
     then (required (nat_le picture.end (length bytes)) CutShort (length bytes)) λ _.
     Ok (record { start = picture.start; end = picture.end; next = picture.end })
 
 abbrev pub located : Layout → List ℕ → Result PictureAt PictureError
 located (Frames header) bytes = frame_at header bytes
-located (Pictures width height) bytes = picture_at width height bytes
+located (Pictures size) bytes = picture_at size bytes

@@ -2,9 +2,11 @@
 use Rattle.std.specs.Prelude.{ℕ, ◌+◌, ◌*◌, Bool, false, cond, not, ◌||◌, List, [], ◌∷◌, ◌++◌, length, take, drop, Ok, codes, decimal, Result, ◌==◌, nat_le, nat_lt, slice_index}
 use Rattle.pictures.specs.Bytes.{blank, size_of}
 use Rattle.pictures.specs.Faults.{or_fault, required, then}
+use Rattle.pictures.specs.Picture.{pixel_count}
 use Rattle.pictures.specs.declared.error.Fault.TheVariants.{BadMagic, BadMaxValue, BadNumber, CutShort, NoDelimiter}
 use Rattle.pictures.specs.declared.error.PictureError.{PictureError}
 use Rattle.pictures.specs.declared.forms.Pgm.{Pgm}
+use Rattle.pictures.specs.declared.forms.Size.{Size}
 use Rattle.pictures.specs.declared.pgm_parsing.Number.{Number}
 use Rattle.std.specs.Char.{is_ascii_digit}
 use Rattle.std.specs.List.{between, prefix_len}
@@ -41,10 +43,11 @@ pgm_of bytes =
     then (number_at bytes height.end) λ max.
     then (required (max.value == 255) BadMaxValue max.start) λ _.
     then (required (blank (slice_index bytes max.end)) NoDelimiter max.end) λ _.
+    let size : Size = record { width = width.value; height = height.value } in
     let start = max.end + 1 in
-    let end = start + width.value * height.value in
+    let end = start + pixel_count size in
     then (required (nat_le end (length bytes)) CutShort (length bytes)) λ _.
-    Ok (record { width = width.value; height = height.value; start = start; end = end })
+    Ok (record { size = size; start = start; end = end })
 
 -- ITS HEADER ALONE says where its pixels end, before they are there.
 abbrev pub pgm_header_of : (bytes : List ℕ) → Result Pgm PictureError
@@ -55,9 +58,10 @@ pgm_header_of bytes =
     then (number_at bytes height.end) λ max.
     then (required (max.value == 255) BadMaxValue max.start) λ _.
     then (required (blank (slice_index bytes max.end)) NoDelimiter max.end) λ _.
+    let size : Size = record { width = width.value; height = height.value } in
     let start = max.end + 1 in
-    Ok (record { width = width.value; height = height.value; start = start; end = start + width.value * height.value })
+    Ok (record { size = size; start = start; end = start + pixel_count size })
 
 -- A HEADER AS IT IS MOSTLY WRITTEN, in three lines
-abbrev pub plain_header : (width height : ℕ) → List ℕ
-plain_header width height = codes "P5\n" ++ (decimal width ++ (codes " " ++ (decimal height ++ codes "\n255\n")))
+abbrev pub plain_header : Size → List ℕ
+plain_header size = codes "P5\n" ++ (decimal size.width ++ (codes " " ++ (decimal size.height ++ codes "\n255\n")))

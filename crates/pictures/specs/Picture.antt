@@ -2,7 +2,11 @@
 use Rattle.std.specs.Prelude.{ℕ, ◌+◌, ◌-◌, ◌*◌, ◌/◌, ◌%◌, min, max, Bool, true, false, cond, List, map, length, ◌==◌, slice_index}
 use Rattle.pictures.specs.declared.forms.Mark.{Mark}
 use Rattle.pictures.specs.declared.forms.Mark.TheVariants.{Nothing, Sure, Unsure}
+use Rattle.pictures.specs.declared.forms.Size.{Size}
 use Rattle.std.specs.List.{range_with_len}
+
+abbrev pub pixel_count : Size → ℕ
+pixel_count size = size.width * size.height
 
 -- THE STRIP is four equal rows as wide as the picture, below it. It is white (235) where the receiver is sure of the picture,
 -- squares of four by four, black (16) and white in turn from the left, where it is not, and black where nothing was shown yet.
@@ -39,15 +43,15 @@ padded_row pixels width = map (padded_pixel pixels) (range_with_len 0 width)
 
 -- A PADDED PICTURE repeats the last column and the last row. A pixel that the picture lacks is 0.
 -- the pixel at an index of the padded picture
-abbrev pub padded_picture_pixel : List ℕ → (width height : ℕ) → (index : ℕ) → ℕ
-padded_picture_pixel pixels width height index =
-    let across = max (padded width) 1 in
-    let column = min (index % across) (width - 1) in
-    let row = min (index / across) (height - 1) in
-    slice_index pixels (row * width + column)
+abbrev pub padded_picture_pixel : List ℕ → Size → (index : ℕ) → ℕ
+padded_picture_pixel pixels size index =
+    let across = max (padded size.width) 1 in
+    let column = min (index % across) (size.width - 1) in
+    let row = min (index / across) (size.height - 1) in
+    slice_index pixels (row * size.width + column)
 
-abbrev pub padded_picture : List ℕ → (width height : ℕ) → (size : ℕ) → List ℕ
-padded_picture pixels width height size = map (padded_picture_pixel pixels width height) (range_with_len 0 size)
+abbrev pub padded_picture : List ℕ → Size → (count : ℕ) → List ℕ
+padded_picture pixels size count = map (padded_picture_pixel pixels size) (range_with_len 0 count)
 
 -- KEY FRAMES AT AN INTERVAL: the first picture, and each that is a multiple of the interval after it
 abbrev pub key_frame : (interval number : ℕ) → Bool

@@ -2,7 +2,7 @@
 use Rattle.std.specs.Prelude.{◌≡◌, ℕ, ◌+◌, ◌*◌, ◌%◌, ◌^◌, ◌<◌, ◌≤◌, true, false, List, ◌++◌, length, Some, None, Ok, codes, ◌≢◌, slice_index}
 use Rattle.pictures.specs.Bytes.{cut}
 use Rattle.pictures.specs.Faults.{fault_at}
-use Rattle.pictures.specs.Picture.{padded, padded_picture_pixel}
+use Rattle.pictures.specs.Picture.{padded, padded_picture_pixel, pixel_count}
 use Rattle.pictures.specs.Pgm.{pgm_of, plain_header}
 use Rattle.pictures.specs.Layout.{form_of, located, y4m_opening}
 use Rattle.pictures.specs.Y4m.{frame_line, header_of, header_text, line_of, rate_of}
@@ -10,26 +10,27 @@ use Rattle.pictures.specs.declared.error.Fault.TheVariants.{BadMagic, BadMaxValu
 use Rattle.pictures.specs.declared.forms.Form.TheVariants.{Pgm, Text, Y4m}
 use Rattle.pictures.specs.declared.forms.Layout.TheVariants.{Frames, Pictures}
 use Rattle.pictures.specs.declared.forms.FrameRate.{FrameRate}
+use Rattle.pictures.specs.declared.forms.Size.{Size}
 use Rattle.std.specs.List.{AllByRecursion}
 
 -- THE HEADER THAT IS WRITTEN IS READ BACK as the same width and height with no chroma, since its words are those that it was
 -- written from, and the digits of a number mean that number.
 abbrev pub ReadsBack : Type 0
-ReadsBack = (width height : ℕ) (rate : FrameRate) → 0 < width → width < 2 ^ 16 → 0 < height → height < 2 ^ 16 →
-    rate.frames < 2 ^ 32 → rate.seconds < 2 ^ 32 → header_of (header_text width height rate) ≡ Ok (record { width = width; height = height; chroma = 0 })
+ReadsBack = (size : Size) (rate : FrameRate) → 0 < size.width → size.width < 2 ^ 16 → 0 < size.height → size.height < 2 ^ 16 →
+    rate.frames < 2 ^ 32 → rate.seconds < 2 ^ 32 → header_of (header_text size rate) ≡ Ok (record { size = size; chroma = 0 })
 
 -- A PICTURE WITH A PLAIN HEADER IS READ as its width, its height and just its pixels, whatever follows, since its numbers
 -- end where their digits do.
 abbrev pub PlainPicture : Type 0
-PlainPicture = (width height : ℕ) (pixels more : List ℕ) → 0 < width → width < 2 ^ 16 → 0 < height → height < 2 ^ 16 → length pixels ≡ width * height →
-    pgm_of (plain_header width height ++ (pixels ++ more))
-    ≡ Ok (record { width = width; height = height; start = length (plain_header width height); end = length (plain_header width height) + length pixels })
+PlainPicture = (size : Size) (pixels more : List ℕ) → 0 < size.width → size.width < 2 ^ 16 → 0 < size.height → size.height < 2 ^ 16 → length pixels ≡ pixel_count size →
+    pgm_of (plain_header size ++ (pixels ++ more))
+    ≡ Ok (record { size = size; start = length (plain_header size); end = length (plain_header size) + length pixels })
 
 -- AND IN A FILE OF PICTURES OF ITS SIZE IT IS FOUND there, and the next begins where its pixels end.
 abbrev pub PlainPictureLocated : Type 0
-PlainPictureLocated = (width height : ℕ) (pixels more : List ℕ) → 0 < width → width < 2 ^ 16 → 0 < height → height < 2 ^ 16 → length pixels ≡ width * height →
-    located (Pictures width height) (plain_header width height ++ (pixels ++ more))
-    ≡ Ok (record { start = length (plain_header width height); end = length (plain_header width height) + length pixels; next = length (plain_header width height) + length pixels })
+PlainPictureLocated = (size : Size) (pixels more : List ℕ) → 0 < size.width → size.width < 2 ^ 16 → 0 < size.height → size.height < 2 ^ 16 → length pixels ≡ pixel_count size →
+    located (Pictures size) (plain_header size ++ (pixels ++ more))
+    ≡ Ok (record { start = length (plain_header size); end = length (plain_header size) + length pixels; next = length (plain_header size) + length pixels })
 
 -- A LINE IS ITS WORDS WITH A SPACE BETWEEN EACH TWO, and no word has a space, since it is cut at every one.
 pub record CutAtSpaces : Type 0 where
@@ -44,16 +45,16 @@ pub record PadsToBlocks : Type 0 where
 
 -- A PADDED PICTURE HAS THE PICTURE IN ITS UPPER LEFT, since a column or a row is repeated only past the last.
 abbrev pub PaddingKeeps : Type 0
-PaddingKeeps = (pixels : List ℕ) (width height column row : ℕ) → column < width → row < height →
-    padded_picture_pixel pixels width height (row * padded width + column) ≡ slice_index pixels (row * width + column)
+PaddingKeeps = (pixels : List ℕ) (size : Size) (column row : ℕ) → column < size.width → row < size.height →
+    padded_picture_pixel pixels size (row * padded size.width + column) ≡ slice_index pixels (row * size.width + column)
 
 -- WORKED EXAMPLES
 pub record Examples : Type 0 where
-  pub grey : header_of (codes "YUV4MPEG2 W16 H8 F25:1 Ip A1:1 Cmono XCOLORRANGE=FULL") ≡ Ok (record { width = 16; height = 8; chroma = 0 })
-  pub colour : header_of (codes "YUV4MPEG2 W16 H8 F25:1 Ip A1:1 C420jpeg XYSCSS=420JPEG XCOLORRANGE=LIMITED") ≡ Ok (record { width = 16; height = 8; chroma = 64 })
-  pub odd : header_of (codes "YUV4MPEG2 H7 W15") ≡ Ok (record { width = 15; height = 7; chroma = 64 })
-  pub half : header_of (codes "YUV4MPEG2 H7 W15 C422") ≡ Ok (record { width = 15; height = 7; chroma = 112 })
-  pub full : header_of (codes "YUV4MPEG2 H7 W15 C444") ≡ Ok (record { width = 15; height = 7; chroma = 210 })
+  pub grey : header_of (codes "YUV4MPEG2 W16 H8 F25:1 Ip A1:1 Cmono XCOLORRANGE=FULL") ≡ Ok (record { size = record { width = 16; height = 8 }; chroma = 0 })
+  pub colour : header_of (codes "YUV4MPEG2 W16 H8 F25:1 Ip A1:1 C420jpeg XYSCSS=420JPEG XCOLORRANGE=LIMITED") ≡ Ok (record { size = record { width = 16; height = 8 }; chroma = 64 })
+  pub odd : header_of (codes "YUV4MPEG2 H7 W15") ≡ Ok (record { size = record { width = 15; height = 7 }; chroma = 64 })
+  pub half : header_of (codes "YUV4MPEG2 H7 W15 C422") ≡ Ok (record { size = record { width = 15; height = 7 }; chroma = 112 })
+  pub full : header_of (codes "YUV4MPEG2 H7 W15 C444") ≡ Ok (record { size = record { width = 15; height = 7 }; chroma = 210 })
   pub deep : header_of (codes "YUV4MPEG2 W15 H7 Cmono10") ≡ fault_at UnknownColourSpace 17
   pub wide : header_of (codes "YUV4MPEG2 W65536 H7") ≡ fault_at BadNumber 10
   pub no_width : header_of (codes "YUV4MPEG2 H7") ≡ fault_at NoWidth 12
@@ -62,16 +63,16 @@ pub record Examples : Type 0 where
   pub written_frame : frame_line (codes "FRAME") ≡ true
   pub frame : frame_line (codes "FRAME Ip") ≡ true
   pub no_frame : frame_line (codes "FRAMES") ≡ false
-  pub picture : pgm_of (codes "P5\n# 2 by 1\n2 1\n255\nab") ≡ Ok (record { width = 2; height = 1; start = 20; end = 22 })
-  pub two_pictures : pgm_of (codes "P5 2 1 255 abP5 1 1 255 c") ≡ Ok (record { width = 2; height = 1; start = 11; end = 13 })
+  pub picture : pgm_of (codes "P5\n# 2 by 1\n2 1\n255\nab") ≡ Ok (record { size = record { width = 2; height = 1 }; start = 20; end = 22 })
+  pub two_pictures : pgm_of (codes "P5 2 1 255 abP5 1 1 255 c") ≡ Ok (record { size = record { width = 2; height = 1 }; start = 11; end = 13 })
   pub cut_short : pgm_of (codes "P5 2 1 255 a") ≡ fault_at CutShort 12
-  pub cut_short_located : located (Pictures 2 1) (codes "P5 2 1 255 a") ≡ fault_at CutShort 12
-  pub other_size : located (Pictures 2 1) (codes "P5 1 1 255 a") ≡ fault_at OtherSize 0
-  pub stream : y4m_opening (codes "YUV4MPEG2 W2 H1 Cmono\nFRAME\nab") ≡ Ok (record { layout = Frames (record { width = 2; height = 1; chroma = 0 }); start = 22 })
+  pub cut_short_located : located (Pictures (record { width = 2; height = 1 })) (codes "P5 2 1 255 a") ≡ fault_at CutShort 12
+  pub other_size : located (Pictures (record { width = 2; height = 1 })) (codes "P5 1 1 255 a") ≡ fault_at OtherSize 0
+  pub stream : y4m_opening (codes "YUV4MPEG2 W2 H1 Cmono\nFRAME\nab") ≡ Ok (record { layout = Frames (record { size = record { width = 2; height = 1 }; chroma = 0 }); start = 22 })
   pub unended : y4m_opening (codes "YUV4MPEG2 W2 H1") ≡ fault_at NoLineEnd 15
-  pub grey_frame : located (Frames (record { width = 2; height = 1; chroma = 2 })) (codes "FRAME\nabuvFRAME\n") ≡ Ok (record { start = 6; end = 8; next = 10 })
-  pub cut_frame : located (Frames (record { width = 2; height = 1; chroma = 2 })) (codes "FRAME\nabu") ≡ fault_at CutShort 9
-  pub other_line : located (Frames (record { width = 2; height = 1; chroma = 0 })) (codes "FRAM\nab") ≡ fault_at NoFrame 0
+  pub grey_frame : located (Frames (record { size = record { width = 2; height = 1 }; chroma = 2 })) (codes "FRAME\nabuvFRAME\n") ≡ Ok (record { start = 6; end = 8; next = 10 })
+  pub cut_frame : located (Frames (record { size = record { width = 2; height = 1 }; chroma = 2 })) (codes "FRAME\nabu") ≡ fault_at CutShort 9
+  pub other_line : located (Frames (record { size = record { width = 2; height = 1 }; chroma = 0 })) (codes "FRAM\nab") ≡ fault_at NoFrame 0
   pub y4m_form : form_of (codes "YUV4MPEG2 W2") ≡ Y4m
   pub pgm_form : form_of (codes "P5\n2") ≡ Pgm
   pub text_form : form_of (codes "size 1 1 step 8") ≡ Text

@@ -7,6 +7,7 @@ use Rattle.pictures.specs.declared.error.Fault.TheVariants.{BadMagic, BadNumber,
 use Rattle.pictures.specs.declared.error.PictureError.{PictureError}
 use Rattle.pictures.specs.declared.forms.FrameRate.{FrameRate}
 use Rattle.pictures.specs.declared.forms.Mark.{Mark}
+use Rattle.pictures.specs.declared.forms.Size.{Size}
 use Rattle.pictures.specs.declared.forms.Y4mHeader.{Y4mHeader}
 use Rattle.pictures.specs.declared.y4m_tags.ColourSpace as colour
 use Rattle.pictures.specs.declared.y4m_tags.ColourSpace.TheVariants.{Mono, Yuv420, Yuv422, Yuv444}
@@ -26,11 +27,11 @@ colour_space_of name =
     (cond (bytes_eq name (codes "422")) (Some Yuv422)
     (cond (bytes_eq name (codes "444")) (Some Yuv444) None)))
 
-abbrev pub chroma_size : colour.ColourSpace → (width height : ℕ) → ℕ
-chroma_size Mono width height = 0
-chroma_size Yuv420 width height = 2 * (((width + 1) / 2) * ((height + 1) / 2))
-chroma_size Yuv422 width height = 2 * (((width + 1) / 2) * height)
-chroma_size Yuv444 width height = 2 * (width * height)
+abbrev pub chroma_size : colour.ColourSpace → Size → ℕ
+chroma_size Mono size = 0
+chroma_size Yuv420 size = 2 * (((size.width + 1) / 2) * ((size.height + 1) / 2))
+chroma_size Yuv422 size = 2 * (((size.width + 1) / 2) * size.height)
+chroma_size Yuv444 size = 2 * (size.width * size.height)
 
 -- A TAG is a letter and a value: W (87) is the width, H (72) the height, C (67) the colour space, and any other says nothing.
 -- Of two tags with one letter the later counts, and without a C it is 420. A bad value is a fault at the tag's position.
@@ -55,7 +56,8 @@ abbrev pub header_from : Tags → (position : ℕ) → Result Y4mHeader PictureE
 header_from tags position =
     then (or_fault tags.width NoWidth position) λ width.
     then (or_fault tags.height NoHeight position) λ height.
-    Ok (record { width = width; height = height; chroma = chroma_size tags.colours width height })
+    let size : Size = record { width = width; height = height } in
+    Ok (record { size = size; chroma = chroma_size tags.colours size })
 
 abbrev pub header_words : (end : ℕ) → List (List ℕ) → Result Y4mHeader PictureError
 header_words end [] = fault_at BadMagic 0
@@ -84,13 +86,13 @@ line_of [] = []
 line_of (w ∷ ws) = w ++ spaced ws
 
 -- frames in the order in which they are seen, and pixels as wide as high
-abbrev pub written_words : (width height : ℕ) → FrameRate → List (List ℕ)
-written_words width height rate =
-    codes "YUV4MPEG2" ∷ (codes "W" ++ decimal width) ∷ (codes "H" ++ decimal height)
+abbrev pub written_words : Size → FrameRate → List (List ℕ)
+written_words size rate =
+    codes "YUV4MPEG2" ∷ (codes "W" ++ decimal size.width) ∷ (codes "H" ++ decimal size.height)
     ∷ (codes "F" ++ (decimal rate.frames ++ (codes ":" ++ decimal rate.seconds))) ∷ codes "Ip" ∷ codes "A1:1" ∷ codes "Cmono" ∷ []
 
-abbrev pub header_text : (width height : ℕ) → FrameRate → List ℕ
-header_text width height rate = line_of (written_words width height rate)
+abbrev pub header_text : Size → FrameRate → List ℕ
+header_text size rate = line_of (written_words size rate)
 
 -- a frame, whose picture has its mark below it
 abbrev pub frame_bytes : (width : ℕ) → (picture : List ℕ) → Mark → List ℕ

@@ -3,7 +3,7 @@ ghost use Rattle.std.specs.Prelude.{◌≡◌, ◌+◌, ◌-◌, ◌^◌, min};
 
 use std::fmt;
 
-#[derive(Clone, Copy)]
+#[derive(Clone, Copy, PartialEq, Eq, Debug)]
 pub enum Fault {
     // The bytes do not begin as the format does.
     BadMagic,
@@ -28,7 +28,7 @@ pub enum Fault {
 }
 
 // What is wrong, and at which byte.
-#[derive(Clone, Copy)]
+#[derive(Clone, Copy, PartialEq, Eq, Debug)]
 pub struct PictureError {
     pub fault: Fault,
     pub position: usize,

@@ -1,9 +1,9 @@
 // Files of pictures: what they are, how they begin, and where each picture's grey pixels stand.
 ghost use Rattle.std.specs.Prelude.{◌≡◌, ◌≤◌, length, IfOk};
-ghost use Rattle.pictures.specs.Layout.{form_of, frame_at, height_of, located, pgm_opening, picture_at, width_of, y4m_opening};
+ghost use Rattle.pictures.specs.Layout.{form_of, frame_at, layout_size, located, pgm_opening, picture_at, y4m_opening};
 
 use crate::error::{Fault, PictureError};
-use crate::forms::{Form, Layout, Opening, PictureAt, Y4mHeader};
+use crate::forms::{Form, Layout, Opening, PictureAt, Size, Y4mHeader};
 use crate::pgm_parsing::parse_pgm_header;
 use crate::steps::require;
 use crate::words::{begins_with, run_end};
@@ -41,7 +41,7 @@ pub fn open_pgm(bytes: &[u8]) -> Result<Opening, PictureError>
 {
     let first = parse_pgm_header(bytes)?;
     Ok(Opening {
-        layout: Layout::Pictures(first.width, first.height),
+        layout: Layout::Pictures(first.size),
         start: 0,
     })
 }
@@ -55,7 +55,7 @@ fn locate_frame(header: Y4mHeader, bytes: &[u8]) -> Result<PictureAt, PictureErr
     require(line < bytes.len(), Fault::CutShort, bytes.len())?;
     require(is_y4m_frame_line(&bytes[0..line]), Fault::NoFrame, 0)?;
     let start = line + 1;
-    let luma = usize::from(header.width) * usize::from(header.height);
+    let luma = header.size.pixels();
     let size = luma.saturating_add(header.chroma);
     require(size <= bytes.len() - start, Fault::CutShort, bytes.len())?;
     Ok(PictureAt {
@@ -66,13 +66,12 @@ fn locate_frame(header: Y4mHeader, bytes: &[u8]) -> Result<PictureAt, PictureErr
 }
 
 // The picture of that size that the bytes begin with.
-fn locate_picture(width: u16, height: u16, bytes: &[u8]) -> Result<PictureAt, PictureError>
-    ensures value { result ≡ picture_at width height bytes.now }
+fn locate_picture(size: Size, bytes: &[u8]) -> Result<PictureAt, PictureError>
+    ensures value { result ≡ picture_at size bytes.now }
     ensures within { IfOk result (λ p. (p.start ≤ p.end) × (p.end ≤ p.next) × (p.next ≤ length bytes.now)) }
 {
     let picture = parse_pgm_header(bytes)?;
-    let same = picture.width == width && picture.height == height;
-    require(same, Fault::OtherSize, 0)?;
+    require(picture.size == size, Fault::OtherSize, 0)?;
     require(picture.end <= bytes.len(), Fault::CutShort, bytes.len())?;
     Ok(PictureAt {
         start: picture.start,
@@ -82,21 +81,13 @@ fn locate_picture(width: u16, height: u16, bytes: &[u8]) -> Result<PictureAt, Pi
 }
 
 impl Layout {
-    pub fn width(self) -> u16
-        ensures { result ≡ width_of self }
+    // The size of each picture.
+    pub fn size(self) -> Size
+        ensures { result ≡ layout_size self }
     {
         match self {
-            Layout::Frames(header) => header.width,
-            Layout::Pictures(width, _) => width,
-        }
-    }
-
-    pub fn height(self) -> u16
-        ensures { result ≡ height_of self }
-    {
-        match self {
-            Layout::Frames(header) => header.height,
-            Layout::Pictures(_, height) => height,
+            Layout::Frames(header) => header.size,
+            Layout::Pictures(size) => size,
         }
     }
 
@@ -107,7 +98,7 @@ impl Layout {
     {
         match self {
             Layout::Frames(header) => locate_frame(header, bytes),
-            Layout::Pictures(width, height) => locate_picture(width, height, bytes),
+            Layout::Pictures(size) => locate_picture(size, bytes),
         }
     }
 }

@@ -11,6 +11,7 @@ mod padding;
 mod pgm_parsing;
 mod promises;
 mod rate;
+mod size;
 mod steps;
 mod strip;
 mod words;
@@ -18,7 +19,7 @@ mod y4m;
 mod y4m_tags;
 
 pub use error::{Fault, PictureError};
-pub use forms::{Form, FrameRate, Layout, Mark, Opening, Pgm, PictureAt, Y4mHeader};
+pub use forms::{Form, FrameRate, Layout, Mark, Opening, Pgm, PictureAt, Size, Y4mHeader};
 pub use key_interval::KeyInterval;
 pub use layout::{open_pgm, open_y4m, recognise};
 pub use padding::{block_count, pad_picture, pad_row, padded_size};

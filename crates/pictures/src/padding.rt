@@ -2,6 +2,7 @@
 ghost use Rattle.std.specs.Prelude.{◌≡◌, ◌+◌, ◌/◌, length};
 ghost use Rattle.pictures.specs.Picture.{padded, padded_picture, padded_picture_pixel, padded_pixel, padded_row};
 
+use crate::forms::Size;
 use crate::steps::byte_at;
 
 // How many blocks of four pixels hold so many.
@@ -33,26 +34,26 @@ fn padded_pixel(pixels: &[u8], column: usize) -> u8
 pub fn pad_row(pixels: &[u8], row: &mut [u8])
     ensures { row.new ≡ padded_row pixels.now (length row.old) }
 {
-    for column in 0..row.len() {
-        row[column] = padded_pixel(pixels, column);
+    for (column, pixel) in row.iter_mut().enumerate() {
+        *pixel = padded_pixel(pixels, column);
     }
 }
 
 // The pixel at an index of the padded picture.
-fn picture_pixel(pixels: &[u8], width: u16, height: u16, index: usize) -> u8
-    ensures { result ≡ padded_picture_pixel pixels.now width height index }
+fn picture_pixel(pixels: &[u8], size: Size, index: usize) -> u8
+    ensures { result ≡ padded_picture_pixel pixels.now size index }
 {
-    let across = padded_size(width).max(1);
-    let column = (index % across).min(usize::from(width.saturating_sub(1)));
-    let row = (index / across).min(usize::from(height.saturating_sub(1)));
-    byte_at(pixels, row * usize::from(width) + column)
+    let across = padded_size(size.width).max(1);
+    let column = (index % across).min(usize::from(size.width.saturating_sub(1)));
+    let row = (index / across).min(usize::from(size.height.saturating_sub(1)));
+    byte_at(pixels, row * usize::from(size.width) + column)
 }
 
 // Fills a picture that is whole blocks wide and high with pixels, and past their last column and row with those.
-pub fn pad_picture(pixels: &[u8], width: u16, height: u16, picture: &mut [u8])
-    ensures { picture.new ≡ padded_picture pixels.now width height (length picture.old) }
+pub fn pad_picture(pixels: &[u8], size: Size, picture: &mut [u8])
+    ensures { picture.new ≡ padded_picture pixels.now size (length picture.old) }
 {
-    for index in 0..picture.len() {
-        picture[index] = picture_pixel(pixels, width, height, index);
+    for (index, pixel) in picture.iter_mut().enumerate() {
+        *pixel = picture_pixel(pixels, size, index);
     }
 }

@@ -6,7 +6,7 @@ ghost use Rattle.std.specs.Char.{is_ascii_digit};
 ghost use Rattle.std.specs.List.{prefix_len};
 
 use crate::error::{Fault, PictureError};
-use crate::forms::Pgm;
+use crate::forms::{Pgm, Size};
 use crate::number::parse_size;
 use crate::steps::{byte_at, require};
 
@@ -79,16 +79,14 @@ fn read_number(bytes: &[u8], offset: usize) -> Result<Number, PictureError>
     let start = gap_end(bytes, offset);
     require(offset < start, Fault::BadNumber, offset)?;
     let end = digits_end(bytes, start);
-    match parse_size(&bytes[start..end]) {
-        Some(value) => Ok(Number { value, start, end }),
-        None => Err(Fault::BadNumber.at(start)),
-    }
+    let value = parse_size(&bytes[start..end]).ok_or(Fault::BadNumber.at(start))?;
+    Ok(Number { value, start, end })
 }
 
 // Reads the header that the bytes begin with. The pixels need not be there yet.
 pub(crate) fn parse_pgm_header(bytes: &[u8]) -> Result<Pgm, PictureError>
     ensures value { result ≡ pgm_header_of bytes.now }
-    ensures sizes { IfOk result (λ p. p.start + p.width * p.height ≡ p.end) }
+    ensures sizes { IfOk result (λ p. p.start + p.size.width * p.size.height ≡ p.end) }
 {
     require(bytes.starts_with(b"P5"), Fault::BadMagic, 0)?;
     let width = read_number(bytes, 2)?;
@@ -97,19 +95,22 @@ pub(crate) fn parse_pgm_header(bytes: &[u8]) -> Result<Pgm, PictureError>
     require(max.value == 255, Fault::BadMaxValue, max.start)?;
     let delimiter = byte_at(bytes, max.end);
     require(is_blank(delimiter), Fault::NoDelimiter, max.end)?;
-    let start = max.end + 1;
-    Ok(Pgm {
+    let size = Size {
         width: width.value,
         height: height.value,
+    };
+    let start = max.end + 1;
+    Ok(Pgm {
+        size,
         start,
-        end: start + usize::from(width.value) * usize::from(height.value),
+        end: start + size.pixels(),
     })
 }
 
 // Reads the picture that the bytes begin with.
 pub fn parse_pgm(bytes: &[u8]) -> Result<Pgm, PictureError>
     ensures value { result ≡ pgm_of bytes.now }
-    ensures within { IfOk result (λ p. (p.start + p.width * p.height ≡ p.end) × (p.end ≤ length bytes.now)) }
+    ensures within { IfOk result (λ p. (p.start + p.size.width * p.size.height ≡ p.end) × (p.end ≤ length bytes.now)) }
 {
     let picture = parse_pgm_header(bytes)?;
     require(picture.end <= bytes.len(), Fault::CutShort, bytes.len())?;

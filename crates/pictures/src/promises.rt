@@ -1,44 +1,30 @@
 // The theorems about the picture formats, each as a contract.
 ghost use Rattle.pictures.specs.Promise.{CutAtSpaces, Examples, PaddingKeeps, PadsToBlocks, PlainPicture, PlainPictureLocated, ReadsBack};
 
-pub fn reads_back() -> u8
+pub fn reads_back()
     ensures { ReadsBack }
-{
-    0
-}
+{}
 
-pub fn plain_picture() -> u8
+pub fn plain_picture()
     ensures { PlainPicture }
-{
-    0
-}
+{}
 
-pub fn plain_picture_located() -> u8
+pub fn plain_picture_located()
     ensures { PlainPictureLocated }
-{
-    0
-}
+{}
 
-pub fn cut_at_spaces() -> u8
+pub fn cut_at_spaces()
     ensures { CutAtSpaces }
-{
-    0
-}
+{}
 
-pub fn pads_to_blocks() -> u8
+pub fn pads_to_blocks()
     ensures { PadsToBlocks }
-{
-    0
-}
+{}
 
-pub fn padding_keeps() -> u8
+pub fn padding_keeps()
     ensures { PaddingKeeps }
-{
-    0
-}
+{}
 
-pub fn worked_examples() -> u8
+pub fn worked_examples()
     ensures { Examples }
-{
-    0
-}
+{}

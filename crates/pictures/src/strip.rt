@@ -40,8 +40,8 @@ fn mark_pixel(mark: Mark, column: usize) -> u8
 pub fn mark_row(mark: Mark, row: &mut [u8])
     ensures { row.new ≡ marked_row mark (length row.old) }
 {
-    for column in 0..row.len() {
-        row[column] = mark_pixel(mark, column);
+    for (column, pixel) in row.iter_mut().enumerate() {
+        *pixel = mark_pixel(mark, column);
     }
 }
 

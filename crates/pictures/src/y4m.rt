@@ -3,7 +3,7 @@ ghost use Rattle.std.specs.Prelude.{◌≡◌, IfOk, string_bytes, codes};
 ghost use Rattle.pictures.specs.Y4m.{frame_bytes, frame_line, header_of, header_text};
 
 use crate::error::{Fault, PictureError};
-use crate::forms::{FrameRate, Mark, Y4mHeader};
+use crate::forms::{FrameRate, Mark, Size, Y4mHeader};
 use crate::strip::push_strip;
 use crate::words::{is_word, word_end};
 use crate::y4m_tags::Tags;
@@ -35,14 +35,10 @@ pub fn is_y4m_frame_line(line: &[u8]) -> bool
 }
 
 // The header line of a grey stream, without its newline.
-pub fn write_y4m_header(
-    heap: Global,
-    width: u16,
-    height: u16,
-    rate: FrameRate,
-) -> Result<String, AllocError>
-    ensures { IfOk result (λ line. string_bytes line ≡ header_text width height rate) }
+pub fn write_y4m_header(heap: Global, size: Size, rate: FrameRate) -> Result<String, AllocError>
+    ensures { IfOk result (λ line. string_bytes line ≡ header_text size rate) }
 {
+    let Size { width, height } = size;
     let FrameRate { frames, seconds } = rate;
     format!(in heap; "YUV4MPEG2 W{width} H{height} F{frames}:{seconds} Ip A1:1 Cmono")
 }

@@ -4,7 +4,7 @@ ghost use Rattle.pictures.specs.Bytes.{one_of};
 ghost use Rattle.pictures.specs.Y4m.{chroma_size, colour_space_of, header_from, names_420, no_tags, with_tag};
 
 use crate::error::{Fault, PictureError};
-use crate::forms::Y4mHeader;
+use crate::forms::{Size, Y4mHeader};
 use crate::number::parse_size;
 use crate::words::is_word;
 
@@ -51,11 +51,11 @@ fn parse_colour_space(name: &[u8]) -> Option<ColourSpace>
 }
 
 // How many bytes both chroma planes of a frame have.
-fn chroma_size(colours: ColourSpace, width: u16, height: u16) -> usize
-    ensures { result ≡ chroma_size colours width height }
+fn chroma_size(colours: ColourSpace, size: Size) -> usize
+    ensures { result ≡ chroma_size colours size }
 {
-    let width = usize::from(width);
-    let height = usize::from(height);
+    let width = usize::from(size.width);
+    let height = usize::from(size.height);
     match colours {
         ColourSpace::Mono => 0,
         ColourSpace::Yuv420 => 2 * (((width + 1) / 2) * ((height + 1) / 2)),
@@ -106,10 +106,10 @@ impl Tags {
     {
         let width = self.width.ok_or(Fault::NoWidth.at(position))?;
         let height = self.height.ok_or(Fault::NoHeight.at(position))?;
+        let size = Size { width, height };
         Ok(Y4mHeader {
-            width,
-            height,
-            chroma: chroma_size(self.colours, width, height),
+            size,
+            chroma: chroma_size(self.colours, size),
         })
     }
 }

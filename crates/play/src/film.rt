@@ -1,7 +1,7 @@
 // What a screen shows, as a Y4M stream.
 use console::{Output, Refusal};
 use frame::Format;
-use pictures::{FrameRate, MARK_ROWS, Mark};
+use pictures::{FrameRate, MARK_ROWS, Mark, Size};
 use std::alloc::Global;
 use std::io::Write;
 use stream::Screen;
@@ -26,14 +26,19 @@ impl Film {
         rate: Option<FrameRate>,
     ) -> Result<Film, Refusal> {
         let heap = rt.alloc();
-        let width = 4 * format.across() as u16;
-        let height = 4 * format.down() as u16 + MARK_ROWS as u16;
+        let size = Size {
+            width: 4 * format.across() as u16,
+            height: 4 * format.down() as u16 + MARK_ROWS as u16,
+        };
         let rate = rate.unwrap_or(USUAL_RATE);
-        let mut line = pictures::write_y4m_header(heap, width, height, rate)?;
+        let mut line = pictures::write_y4m_header(heap, size, rate)?;
         line.push('\n')?;
         let mut output = Output::create(rt, name)?;
         output.write_all(line.as_bytes())?;
-        Ok(Film { output, width })
+        Ok(Film {
+            output,
+            width: size.width,
+        })
     }
 
     // Adds what the screen shows.

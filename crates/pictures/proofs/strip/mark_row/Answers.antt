@@ -1,11 +1,7 @@
 use Rattle.std.proofs.Common.{arith}
 use Rattle.std.proofs.lemmas.List.FromFn.{fill_by_all}
-use Rattle.std.proofs.lemmas.List.Edits.{fill_by_more}
 use Rattle.pictures.specs.Picture.{mark_pixel}
 use Rattle.pictures.proofs.strip.mark_row.Goals as goal
 
-pub loop-column-preserved : goal.loop-column-preserved
-loop-column-preserved c = rw c.mark_pixel.ensures (fill_by_more (mark_pixel c.args.mark) c.loop-column.row _ 0 (omega arith) c.loop-column.invariant)
-
 pub returns : goal.returns
-returns c = fill_by_all (mark_pixel c.args.mark) c.loop-column.row _ 0 c.loop-column.auto.row (λ k h. c.loop-column.invariant k (omega arith))
+returns c = fill_by_all (mark_pixel c.args.mark) _ _ 0 c.loop-column.auto.row (λ k h. c.loop-column.invariant k (omega arith))
