@@ -1,91 +1,143 @@
--- A line is cut word by word: the next word ends where a front without spaces does, and the later words stand after that space.
-use Rattle.std.proofs.Common.{◌≡◌, ℕ, ◌+◌, ◌-◌, ◌<◌, ◌≤◌, Bool, true, false, eqb, List, [], ◌∷◌, length, take, drop, Ok, Err, codes, Result, sym, refl, ap, ◌∙◌, one-add, arith}
-use Rattle.pictures.specs.Bytes.{cut, not_space}
-use Rattle.pictures.specs.Faults.{fault_at, then}
+-- A line's words are what the library's split gives. A header's tags are read one by one, each where it stands.
+use Rattle.std.proofs.Common.{◌≡◌, ℕ, ◌+◌, ◌<◌, ◌≤◌, Bool, true, false, cond, not, eqb, ltb, List, [], ◌∷◌, length, get_or, take, drop, Some, None, Ok, Err, codes, unwrap_or, Result, sym, refl, ap, ◌∙◌, one-add, arith}
+use Rattle.pictures.specs.Bytes.{cut, not_space, put_before}
+use Rattle.pictures.specs.Faults.{fault_at, required, then}
 use Rattle.pictures.specs.Y4m.{first_word, header_from, header_of, header_words, no_tags, with_tag, with_tags}
+use Rattle.pictures.specs.declared.error.Fault.{Fault}
 use Rattle.pictures.specs.declared.error.Fault.TheVariants.{BadMagic}
 use Rattle.pictures.specs.declared.error.PictureError.{PictureError}
 use Rattle.pictures.specs.declared.forms.Y4mHeader.{Y4mHeader}
 use Rattle.pictures.specs.declared.y4m_tags.Tags.{Tags}
-use Rattle.std.proofs.lemmas.List.Edits.{length-between}
-use Rattle.std.proofs.lemmas.List.{drop_all, drop-drop, drop_more}
-use Rattle.std.proofs.lemmas.Bool.{cond-false, cond-true}
-use Rattle.std.specs.List.{between, prefix_len}
+use Rattle.std.proofs.lemmas.Bool.{ltb-false}
+use Rattle.std.proofs.lemmas.List.{drop_all, drop_more}
+use Rattle.std.proofs.lemmas.List.Sums.{prefix_len-le-length}
+use Rattle.std.specs.List.{onto_first, position, position_or_len, prefix_len, slice_split}
 use Rattle.std.specs.Str.{bytes_eq}
 
--- the words after the space that bytes begin with
-abbrev pub later : List ℕ → List (List ℕ)
-later [] = []
-later (c ∷ cs) = cut cs
+abbrev pub is_space : ℕ → Bool
+is_space c = eqb c 32
 
-abbrev first_and_later : List ℕ → List (List ℕ)
-first_and_later cs = take (prefix_len not_space cs) cs ∷ later (drop (prefix_len not_space cs) cs)
+-- CUT AS THE LIBRARY SPLITS, which never gives no word
+abbrev pub split : List ℕ → List (List ℕ)
+split line = slice_split is_space line
 
-by_test : (c : ℕ) (cs : List ℕ) (space : Bool) → eqb c 32 ≡ space → cut cs ≡ first_and_later cs → cut (c ∷ cs) ≡ first_and_later (c ∷ cs)
+put_onto : (c : ℕ) (x : ℕ) (ws : List (List ℕ)) → put_before c (onto_first x ws) ≡ onto_first c (onto_first x ws)
+put_onto c x [] = refl
+put_onto c x (w ∷ ws) = refl
+
+put_by : (c x : ℕ) (ws : List (List ℕ)) (b : Bool) → put_before c (cond b ([] ∷ ws) (onto_first x ws)) ≡ onto_first c (cond b ([] ∷ ws) (onto_first x ws))
+put_by c x ws true = refl
+put_by c x ws false = put_onto c x ws
+
+put_split : (c : ℕ) (cs : List ℕ) → put_before c (split cs) ≡ onto_first c (split cs)
+put_split c [] = refl
+put_split c (x ∷ xs) = put_by c x (split xs) (is_space x)
+
+cut_by : (c : ℕ) (cs : List ℕ) (b : Bool) → cut cs ≡ split cs → cond b ([] ∷ cut cs) (put_before c (cut cs)) ≡ cond b ([] ∷ split cs) (onto_first c (split cs))
+cut_by c cs true h = ap (λ ws. [] ∷ ws) h
+cut_by c cs false h = ap (put_before c) h ∙ put_split c cs
+
+pub cut_is_split : (cs : List ℕ) → cut cs ≡ split cs
 unfolding cut
-by_test c cs true e h = rw e
-by_test c cs false e h = rw (e, one-add, h)
+cut_is_split [] = refl
+cut_is_split (c ∷ cs) = cut_by c cs (is_space c) (cut_is_split cs)
 
-first_word_cut : (cs : List ℕ) → cut cs ≡ first_and_later cs
-unfolding cut
-first_word_cut [] = refl
-first_word_cut (c ∷ cs) = by_test c cs _ refl (first_word_cut cs)
+-- THE FIRST WORD ends at the first space
+first_onto : (c : ℕ) (ws : List (List ℕ)) → first_word (onto_first c ws) ≡ c ∷ first_word ws
+first_onto c [] = refl
+first_onto c (w ∷ ws) = refl
 
--- the same from an index of a line on
-module _ (line : List ℕ) (start end : ℕ) (ends : end ≡ start + prefix_len not_space (drop start line)) where
-  pub word_at : cut (drop start line) ≡ between start end line ∷ later (drop end line)
-  word_at =
-      let count : prefix_len not_space (drop start line) ≡ end - start = omega arith in
-      let back : start + (end - start) ≡ end = omega arith in
-      first_word_cut (drop start line)
-      ∙ ap (λ n. take n (drop start line) ∷ later (drop n (drop start line))) count
-      ∙ ap (λ bs. between start end line ∷ later bs) (drop-drop (end - start) start line ∙ ap (λ n. drop n line) back)
+first_by : (c : ℕ) (cs : List ℕ) (b : Bool) → first_word (split cs) ≡ take (prefix_len not_space cs) cs →
+    first_word (cond b ([] ∷ split cs) (onto_first c (split cs))) ≡ take (cond (not b) (1 + prefix_len not_space cs) 0) (c ∷ cs)
+first_by c cs true h = refl
+first_by c cs false h = first_onto c (split cs) ∙ ap (λ w. c ∷ w) h ∙ rw one-add refl
 
--- THE TAGS THAT ARE LEFT at a loop's turn, where `end` is the end of the word before them
-abbrev pub left : (line : List ℕ) → Tags → (end : ℕ) → Result Tags PictureError
-left line tags end = with_tags tags (end + 1) (later (drop end line))
+first_split : (cs : List ℕ) → first_word (split cs) ≡ take (prefix_len not_space cs) cs
+first_split [] = refl
+first_split (c ∷ cs) = first_by c cs (is_space c) (first_split cs)
+
+found_by : (n m : ℕ) (b : Bool) → ltb n m ≡ b → n ≤ m → unwrap_or (cond b (Some n) None) m ≡ n
+found_by n m true e h = refl
+found_by n m false e h = omega (arith, ltb-false n m e)
+
+found_or_end : (line : List ℕ) → unwrap_or (position is_space line) (length line) ≡ prefix_len not_space line
+found_or_end line = found_by _ _ _ refl (prefix_len-le-length not_space line)
+
+pub first_is : (line : List ℕ) → take (unwrap_or (position is_space line) (length line)) line ≡ first_word (cut line)
+first_is line = ap (λ n. take n line) (found_or_end line) ∙ sym (ap first_word (cut_is_split line) ∙ first_split line)
+
+-- ALL WORDS, a byte after each, are as long as the line and a byte
+abbrev pub spread : List (List ℕ) → ℕ
+spread [] = 0
+spread (w ∷ ws) = length w + 1 + spread ws
+
+spread_onto : (c : ℕ) (ws : List (List ℕ)) → 0 < spread ws → spread (onto_first c ws) ≡ spread ws + 1
+spread_onto c [] h = absurd (omega (arith, h))
+spread_onto c (w ∷ ws) h = omega arith
+
+spread_by : (c : ℕ) (cs : List ℕ) (b : Bool) → spread (split cs) ≡ length cs + 1 → spread (cond b ([] ∷ split cs) (onto_first c (split cs))) ≡ length (c ∷ cs) + 1
+spread_by c cs true h = omega arith
+spread_by c cs false h = omega (arith, spread_onto c (split cs) (omega arith))
+
+pub spread_split : (cs : List ℕ) → spread (split cs) ≡ length cs + 1
+spread_split [] = refl
+spread_split (c ∷ cs) = spread_by c cs (is_space c) (spread_split cs)
+
+-- THE TAGS are the words after the first
+abbrev pub tag_words : List ℕ → List (List ℕ)
+tag_words line = drop 1 (split line)
 
 abbrev pub finished : (line : List ℕ) → Result Tags PictureError → Result Y4mHeader PictureError
 finished line r = then r λ tags. header_from tags (length line)
 
-tags_step : (tags : Tags) (n : ℕ) (w : List ℕ) (ws : List (List ℕ)) → with_tags tags n (w ∷ ws) ≡ then (with_tag tags w n) λ more. with_tags more (n + length w + 1) ws
+words_by : (end : ℕ) (ws : List (List ℕ)) → 0 < spread ws →
+    header_words end ws
+    ≡ cond (bytes_eq (first_word ws) (codes "YUV4MPEG2")) (then (with_tags no_tags (length (first_word ws) + 1) (drop 1 ws)) λ tags. header_from tags end) (fault_at BadMagic 0)
+words_by end [] h = absurd (omega (arith, h))
+words_by end (w ∷ ws) h = refl
+
+pub header_is : (line : List ℕ) (magic : List ℕ) → magic ≡ first_word (cut line) →
+    header_of line ≡ cond (bytes_eq magic (codes "YUV4MPEG2")) (finished line (with_tags no_tags (length magic + 1) (tag_words line))) (fault_at BadMagic 0)
+header_is line magic e =
+    ap (header_words (length line)) (cut_is_split line)
+    ∙ words_by (length line) (split line) (omega (arith, spread_split line))
+    ∙ ap (λ w. cond (bytes_eq w (codes "YUV4MPEG2")) (finished line (with_tags no_tags (length w + 1) (tag_words line))) (fault_at BadMagic 0)) (sym (e ∙ ap first_word (cut_is_split line)))
+
+pub was_required : (test : Bool) (fault : Fault) (position : ℕ) {x : Unit {0}} → Ok x ≡ required test fault position → test ≡ true
+was_required true fault position e = refl
+was_required false fault position e = cc
+
+first_spread : (ws : List (List ℕ)) → 0 < spread ws → length (first_word ws) + 1 + spread (drop 1 ws) ≡ spread ws
+first_spread [] h = absurd (omega (arith, h))
+first_spread (w ∷ ws) h = refl
+
+pub tags_spread : (line : List ℕ) (magic : List ℕ) → magic ≡ first_word (cut line) → length magic + 1 + spread (tag_words line) ≡ length line + 1
+tags_spread line magic e =
+    ap (λ w. length w + 1 + spread (tag_words line)) (e ∙ ap first_word (cut_is_split line))
+    ∙ first_spread (split line) (omega (arith, spread_split line))
+    ∙ spread_split line
+
+-- A TURN, whose word is the one at k
+module _ (ws : List (List ℕ)) (k : ℕ) (w : List ℕ) (turn : (k < length ws) × (w ≡ get_or ws k w)) where
+  pub turn_words : drop k ws ≡ w ∷ drop (k + 1) ws
+  turn_words = drop_more ws k w turn.0 ∙ ap (λ v. v ∷ drop (k + 1) ws) (sym turn.1)
+
+  pub turn_spread : spread (drop k ws) ≡ length w + 1 + spread (drop (k + 1) ws)
+  turn_spread = ap spread turn_words
+
+  turn_step : (tags : Tags) (n : ℕ) → with_tags tags n (drop k ws) ≡ then (with_tag tags w n) λ more. with_tags more (n + length w + 1) (drop (k + 1) ws)
+  unfolding with_tags
+  turn_step tags n = ap (with_tags tags n) turn_words
+
+  pub turn_more : (tags more : Tags) (n : ℕ) → Ok more ≡ with_tag tags w n → with_tags tags n (drop k ws) ≡ with_tags more (n + (length w + 1)) (drop (k + 1) ws)
+  turn_more tags more n e =
+      turn_step tags n
+      ∙ ap (λ r. then r λ m. with_tags m (n + length w + 1) (drop (k + 1) ws)) (sym e)
+      ∙ ap (λ m. with_tags more m (drop (k + 1) ws)) (omega arith)
+
+  pub turn_fault : (tags : Tags) (x : PictureError) (n : ℕ) → Err x ≡ with_tag tags w n → with_tags tags n (drop k ws) ≡ Err x
+  turn_fault tags x n e = turn_step tags n ∙ ap (λ r. then r λ m. with_tags m (n + length w + 1) (drop (k + 1) ws)) (sym e)
+
+pub no_more : (ws : List (List ℕ)) (k : ℕ) (tags : Tags) (n : ℕ) → length ws ≤ k → with_tags tags n (drop k ws) ≡ Ok tags
 unfolding with_tags
-tags_step tags n w ws = refl
-
-tags_none : (tags : Tags) (n : ℕ) → with_tags tags n [] ≡ Ok tags
-unfolding with_tags
-tags_none tags n = refl
-
-module _ (line : List ℕ) (tags : Tags) (end next : ℕ) (inside : end < length line) (ends : next ≡ end + 1 + prefix_len not_space (drop (end + 1) line)) (within : next ≤ length line) where
-  left_step : left line tags end ≡ then (with_tag tags (between (end + 1) next line) (end + 1)) λ more. left line more next
-  left_step =
-      let position : end + 1 + length (between (end + 1) next line) ≡ next = omega (arith, length-between line (end + 1) next within) in
-      ap (λ bs. with_tags tags (end + 1) (later bs)) (drop_more line end 0 inside)
-      ∙ ap (with_tags tags (end + 1)) (word_at line (end + 1) next ends)
-      ∙ tags_step tags (end + 1) _ _
-      ∙ ap (λ n. then (with_tag tags (between (end + 1) next line) (end + 1)) λ more. with_tags more (n + 1) (later (drop next line))) position
-
-  pub left_more : (more : Tags) → Ok more ≡ with_tag tags (between (end + 1) next line) (end + 1) → left line tags end ≡ left line more next
-  left_more more e = left_step ∙ ap (λ r. then r λ t. left line t next) (sym e)
-
-  pub left_fault : (e : PictureError) → Err e ≡ with_tag tags (between (end + 1) next line) (end + 1) → left line tags end ≡ Err e
-  left_fault x e = left_step ∙ ap (λ r. then r λ t. left line t next) (sym e)
-
-pub left_none : (line : List ℕ) (tags : Tags) (end : ℕ) → length line ≤ end → left line tags end ≡ Ok tags
-left_none line tags end past = ap (λ bs. with_tags tags (end + 1) (later bs)) (drop_all end line past) ∙ tags_none tags (end + 1)
-
--- THE FIRST WORD, which ends at `end`
-module _ (line : List ℕ) (end : ℕ) (ends : end ≡ 0 + prefix_len not_space line) (within : end ≤ length line) where
-  pub first_is : first_word (cut line) ≡ between 0 end line
-  first_is = ap first_word (word_at line 0 end ends)
-
-  magic_step : header_of line ≡ header_words (length line) (between 0 end line ∷ later (drop end line))
-  magic_step = ap (header_words (length line)) (word_at line 0 end ends)
-
-  pub magic_found : bytes_eq (between 0 end line) (codes "YUV4MPEG2") ≡ true → header_of line ≡ finished line (left line no_tags end)
-  magic_found e =
-      let position : length (between 0 end line) ≡ end = length-between line 0 end within ∙ omega arith in
-      magic_step ∙ cond-true _ _ _ e ∙ ap (λ n. finished line (with_tags no_tags (n + 1) (later (drop end line)))) position
-
-  pub magic_missing : bytes_eq (between 0 end line) (codes "YUV4MPEG2") ≡ false → header_of line ≡ fault_at BadMagic 0
-  magic_missing e = magic_step ∙ cond-false _ _ _ e
+no_more ws k tags n past = ap (with_tags tags n) (drop_all k ws past)

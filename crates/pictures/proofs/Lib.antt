@@ -1,6 +1,6 @@
 pub mod Cutting
 pub mod Digits
-pub mod Fronts
+pub mod Gaps
 pub mod Numbers
 pub mod PaddedCorner
 pub mod PgmChecked

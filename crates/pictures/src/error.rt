@@ -43,9 +43,23 @@ impl Fault {
             position,
         }
     }
+}
 
-    fn reason(self) -> &'static str {
-        match self {
+impl PictureError {
+    // The same in a file, where the bytes that were read begin at that offset.
+    pub fn placed(self, offset: usize) -> PictureError
+        ensures { result ≡ record { fault = self.fault; position = min (self.position + offset) (2 ^ 64 - 1) } }
+    {
+        PictureError {
+            position: self.position.saturating_add(offset),
+            ..self
+        }
+    }
+}
+
+impl fmt::Display for Fault {
+    fn fmt<W: fmt::Write>(&self, f: &mut fmt::Formatter<W>) -> fmt::Result {
+        f.write_str(match self {
             Fault::BadMagic => "not the beginning of the format",
             Fault::BadNumber => "no number from 1 to 65535",
             Fault::UnknownColourSpace => "a colour space that is not read",
@@ -57,26 +71,13 @@ impl Fault {
             Fault::NoLineEnd => "the header line does not end",
             Fault::NoFrame => "no FRAME line where a frame should begin",
             Fault::OtherSize => "a picture of another size than the first",
-        }
-    }
-}
-
-impl PictureError {
-    // The same in a file, where the bytes that were read begin at that offset.
-    pub fn placed(self, offset: usize) -> PictureError
-        ensures { result ≡ record { fault = self.fault; position = min (self.position + offset) (2 ^ 64 - 1) } }
-    {
-        PictureError {
-            fault: self.fault,
-            position: self.position.saturating_add(offset),
-        }
+        })
     }
 }
 
 impl fmt::Display for PictureError {
     fn fmt<W: fmt::Write>(&self, f: &mut fmt::Formatter<W>) -> fmt::Result {
         let PictureError { fault, position } = *self;
-        let reason = fault.reason();
-        write!(f, "{reason} (position {position})")
+        write!(f, "{fault} (position {position})")
     }
 }

@@ -6,16 +6,16 @@ use crate::error::{Fault, PictureError};
 use crate::forms::{Form, Layout, Opening, PictureAt, Size, Y4mHeader};
 use crate::pgm_parsing::parse_pgm_header;
 use crate::steps::require;
-use crate::words::{begins_with, run_end};
+use crate::words::find_byte;
 use crate::y4m::{is_y4m_frame_line, parse_y4m_header};
 
 // What a file is that begins with these bytes.
 pub fn recognise(bytes: &[u8]) -> Form
     ensures { result ≡ form_of bytes.now }
 {
-    if begins_with(bytes, b"YUV4MPEG2") {
+    if bytes.starts_with(b"YUV4MPEG2") {
         Form::Y4m
-    } else if begins_with(bytes, b"P5") {
+    } else if bytes.starts_with(b"P5") {
         Form::Pgm
     } else {
         Form::Text
@@ -26,9 +26,8 @@ pub fn recognise(bytes: &[u8]) -> Form
 pub fn open_y4m(bytes: &[u8]) -> Result<Opening, PictureError>
     ensures { result ≡ y4m_opening bytes.now }
 {
-    let end = run_end(bytes, 0, b'\n');
-    require(end < bytes.len(), Fault::NoLineEnd, bytes.len())?;
-    let header = parse_y4m_header(&bytes[0..end])?;
+    let end = find_byte(bytes, b'\n').ok_or(Fault::NoLineEnd.at(bytes.len()))?;
+    let header = parse_y4m_header(&bytes[..end])?;
     Ok(Opening {
         layout: Layout::Frames(header),
         start: end + 1,
@@ -51,9 +50,8 @@ fn locate_frame(header: Y4mHeader, bytes: &[u8]) -> Result<PictureAt, PictureErr
     ensures value { result ≡ frame_at header bytes.now }
     ensures within { IfOk result (λ p. (p.start ≤ p.end) × (p.end ≤ p.next) × (p.next ≤ length bytes.now)) }
 {
-    let line = run_end(bytes, 0, b'\n');
-    require(line < bytes.len(), Fault::CutShort, bytes.len())?;
-    require(is_y4m_frame_line(&bytes[0..line]), Fault::NoFrame, 0)?;
+    let line = find_byte(bytes, b'\n').ok_or(Fault::CutShort.at(bytes.len()))?;
+    require(is_y4m_frame_line(&bytes[..line]), Fault::NoFrame, 0)?;
     let start = line + 1;
     let luma = header.size.pixels();
     let size = luma.saturating_add(header.chroma);

@@ -3,31 +3,26 @@ ghost use Rattle.std.specs.Prelude.{◌≡◌, ◌+◌, ◌/◌, length};
 ghost use Rattle.pictures.specs.Picture.{padded, padded_picture, padded_picture_pixel, padded_pixel, padded_row};
 
 use crate::forms::Size;
-use crate::steps::byte_at;
 
 // How many blocks of four pixels hold so many.
 pub fn block_count(size: u16) -> u64
     ensures { result ≡ (size + 3) / 4 }
 {
-    (u64::from(size) + 3) / 4
+    u64::from(size).div_ceil(4)
 }
 
 // The next multiple of four.
 pub fn padded_size(size: u16) -> usize
     ensures { result ≡ padded size }
 {
-    (usize::from(size) + 3) / 4 * 4
+    usize::from(size).next_multiple_of(4)
 }
 
 // The pixel in a column, and past the end the last one.
 fn padded_pixel(pixels: &[u8], column: usize) -> u8
     ensures { result ≡ padded_pixel pixels.now column }
 {
-    if pixels.is_empty() {
-        0
-    } else {
-        pixels[column.min(pixels.len() - 1)]
-    }
+    pixels.get(column).or(pixels.last()).copied().unwrap_or(0)
 }
 
 // Fills a row with pixels, and past their end with the last of them.
@@ -46,7 +41,8 @@ fn picture_pixel(pixels: &[u8], size: Size, index: usize) -> u8
     let across = padded_size(size.width).max(1);
     let column = (index % across).min(usize::from(size.width.saturating_sub(1)));
     let row = (index / across).min(usize::from(size.height.saturating_sub(1)));
-    byte_at(pixels, row * usize::from(size.width) + column)
+    let at = row * usize::from(size.width) + column;
+    pixels.get(at).copied().unwrap_or(0)
 }
 
 // Fills a picture that is whole blocks wide and high with pixels, and past their last column and row with those.

@@ -8,7 +8,7 @@ ghost use Rattle.std.specs.List.{prefix_len};
 use crate::error::{Fault, PictureError};
 use crate::forms::{Pgm, Size};
 use crate::number::parse_size;
-use crate::steps::{byte_at, require};
+use crate::steps::require;
 
 // A number of the header, whose digits stand from `start` up to `end`.
 #[derive(Clone, Copy)]
@@ -21,7 +21,7 @@ pub(crate) struct Number {
 fn is_blank(byte: u8) -> bool
     ensures { result ≡ blank byte }
 {
-    byte == b' ' || byte == b'\t' || byte == b'\n' || byte == b'\r'
+    matches!(byte, b' ' | b'\t' | b'\n' | b'\r')
 }
 
 // Whether whitespace and comments go on with a byte.
@@ -42,32 +42,30 @@ fn is_comment_after(comment: bool, byte: u8) -> bool
     }
 }
 
-// Where the whitespace and comments that begin at `start` end.
-fn gap_end(bytes: &[u8], start: usize) -> usize
-    requires { start ≤ length bytes.now }
-    ensures value { result ≡ start + gap false (drop start bytes.now) }
+// How many bytes of whitespace and comments come first.
+fn gap_length(bytes: &[u8]) -> usize
+    ensures value { result ≡ gap false bytes.now }
     ensures within { result ≤ length bytes.now }
 {
-    let mut end = start;
     let mut comment = false;
-    while end < bytes.len() && is_in_gap(comment, bytes[end]) {
-        comment = is_comment_after(comment, bytes[end]);
-        end += 1;
+    for (length, byte) in bytes.iter().enumerate() {
+        if !is_in_gap(comment, *byte) {
+            return length;
+        }
+        comment = is_comment_after(comment, *byte);
     }
-    end
+    bytes.len()
 }
 
-// Where the digits that begin at `start` end.
-fn digits_end(bytes: &[u8], start: usize) -> usize
-    requires { start ≤ length bytes.now }
-    ensures value { result ≡ start + prefix_len is_ascii_digit (drop start bytes.now) }
+// How many digits come first.
+fn digit_count(bytes: &[u8]) -> usize
+    ensures value { result ≡ prefix_len is_ascii_digit bytes.now }
     ensures within { result ≤ length bytes.now }
 {
-    let mut end = start;
-    while end < bytes.len() && bytes[end].is_ascii_digit() {
-        end += 1;
-    }
-    end
+    bytes
+        .iter()
+        .take_while(|byte| byte.is_ascii_digit())
+        .count()
 }
 
 // The number after the gap that begins at `offset`.
@@ -76,9 +74,9 @@ fn read_number(bytes: &[u8], offset: usize) -> Result<Number, PictureError>
     ensures value { result ≡ number_at bytes.now offset }
     ensures within { IfOk result (λ n. n.end ≤ length bytes.now) }
 {
-    let start = gap_end(bytes, offset);
+    let start = offset + gap_length(&bytes[offset..]);
     require(offset < start, Fault::BadNumber, offset)?;
-    let end = digits_end(bytes, start);
+    let end = start + digit_count(&bytes[start..]);
     let value = parse_size(&bytes[start..end]).ok_or(Fault::BadNumber.at(start))?;
     Ok(Number { value, start, end })
 }
@@ -93,8 +91,8 @@ pub(crate) fn parse_pgm_header(bytes: &[u8]) -> Result<Pgm, PictureError>
     let height = read_number(bytes, width.end)?;
     let max = read_number(bytes, height.end)?;
     require(max.value == 255, Fault::BadMaxValue, max.start)?;
-    let delimiter = byte_at(bytes, max.end);
-    require(is_blank(delimiter), Fault::NoDelimiter, max.end)?;
+    let delimited = bytes.get(max.end).is_some_and(|byte| is_blank(*byte));
+    require(delimited, Fault::NoDelimiter, max.end)?;
     let size = Size {
         width: width.value,
         height: height.value,

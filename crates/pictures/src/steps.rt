@@ -1,5 +1,5 @@
-// Small steps that the formats share.
-ghost use Rattle.std.specs.Prelude.{◌≡◌, slice_index};
+// A step that the formats share.
+ghost use Rattle.std.specs.Prelude.{◌≡◌};
 ghost use Rattle.pictures.specs.Faults.{required};
 
 use crate::error::{Fault, PictureError};
@@ -12,11 +12,4 @@ pub(crate) fn require(test: bool, fault: Fault, position: usize) -> Result<(), P
     } else {
         Err(fault.at(position))
     }
-}
-
-// The byte at an index, and 0 past the end.
-pub(crate) fn byte_at(bytes: &[u8], index: usize) -> u8
-    ensures { result ≡ slice_index bytes.now index }
-{
-    if index < bytes.len() { bytes[index] } else { 0 }
 }

@@ -56,8 +56,6 @@ fn strip_pixel(mark: Mark, width: u16, index: usize) -> u8
 pub(crate) fn push_strip(mark: Mark, width: u16, frame: &mut Vec<u8>) -> Result<(), AllocError>
     ensures { OnOk result (frame.new.items ≡ frame.old.items ++ marked_strip mark width) }
 {
-    for index in 0..MARK_ROWS * usize::from(width) {
-        frame.push(strip_pixel(mark, width, index))?;
-    }
-    Ok(())
+    let indices = 0..MARK_ROWS * usize::from(width);
+    frame.extend(indices.map(|index| strip_pixel(mark, width, index)))
 }

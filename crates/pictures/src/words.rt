@@ -1,39 +1,18 @@
-// Words of a line, and lines.
-ghost use Rattle.std.specs.Prelude.{◌≡◌, ◌+◌, ◌≤◌, length, take, drop};
-ghost use Rattle.pictures.specs.Bytes.{not_byte, not_space};
-ghost use Rattle.std.specs.List.{prefix_len};
-ghost use Rattle.std.specs.Str.{bytes_eq};
+// Bytes that something else ends.
+ghost use Rattle.std.specs.Prelude.{◌≡◌, ◌==◌, position};
+ghost use Rattle.pictures.specs.Bytes.{cut};
+ghost use Rattle.pictures.specs.Y4m.{first_word};
 
-// Where the bytes from `start` on come to a delimiter, or end.
-pub(crate) fn run_end(bytes: &[u8], start: usize, delimiter: u8) -> usize
-    requires { start ≤ length bytes.now }
-    ensures value { result ≡ start + prefix_len (not_byte delimiter) (drop start bytes.now) }
-    ensures within { result ≤ length bytes.now }
+// Where a byte first stands.
+pub(crate) fn find_byte(bytes: &[u8], wanted: u8) -> Option<usize>
+    ensures { result ≡ position (λ c. c == wanted) bytes.now }
 {
-    let mut end = start;
-    while end < bytes.len() && bytes[end] != delimiter {
-        end += 1;
-    }
-    end
+    bytes.iter().position(|byte| *byte == wanted)
 }
 
-// Where the word that begins at `start` ends: at a space, or with the line.
-pub(crate) fn word_end(line: &[u8], start: usize) -> usize
-    requires { start ≤ length line.now }
-    ensures value { result ≡ start + prefix_len not_space (drop start line.now) }
-    ensures within { result ≤ length line.now }
+// What stands before a line's first space, or the whole line where it has none.
+pub(crate) fn first_word(line: &[u8]) -> &[u8]
+    ensures { result.now ≡ first_word (cut line.now) }
 {
-    run_end(line, start, b' ')
-}
-
-pub(crate) fn is_word(bytes: &[u8], word: &[u8]) -> bool
-    ensures { result ≡ bytes_eq bytes.now word.now }
-{
-    bytes == word
-}
-
-pub(crate) fn begins_with(bytes: &[u8], word: &[u8]) -> bool
-    ensures { result ≡ bytes_eq word.now (take (length word.now) bytes.now) }
-{
-    bytes.starts_with(word)
+    &line[..find_byte(line, b' ').unwrap_or(line.len())]
 }

@@ -4,8 +4,9 @@ ghost use Rattle.pictures.specs.Y4m.{frame_bytes, frame_line, header_of, header_
 
 use crate::error::{Fault, PictureError};
 use crate::forms::{FrameRate, Mark, Size, Y4mHeader};
+use crate::steps::require;
 use crate::strip::push_strip;
-use crate::words::{is_word, word_end};
+use crate::words::first_word;
 use crate::y4m_tags::Tags;
 use std::alloc::{AllocError, Global};
 
@@ -13,15 +14,13 @@ use std::alloc::{AllocError, Global};
 pub fn parse_y4m_header(line: &[u8]) -> Result<Y4mHeader, PictureError>
     ensures { result ≡ header_of line.now }
 {
-    let mut end = word_end(line, 0);
-    if !is_word(&line[0..end], b"YUV4MPEG2") {
-        return Err(Fault::BadMagic.at(0));
-    }
+    let magic = first_word(line);
+    require(magic == b"YUV4MPEG2".as_slice(), Fault::BadMagic, 0)?;
     let mut tags = Tags::none();
-    while end < line.len() {
-        let start = end + 1;
-        end = word_end(line, start);
-        tags = tags.push(&line[start..end], start)?;
+    let mut position = magic.len() + 1;
+    for tag in line.split(|byte| *byte == b' ').skip(1) {
+        tags = tags.push(tag, position)?;
+        position += tag.len() + 1;
     }
     tags.header(line.len())
 }
@@ -30,8 +29,7 @@ pub fn parse_y4m_header(line: &[u8]) -> Result<Y4mHeader, PictureError>
 pub fn is_y4m_frame_line(line: &[u8]) -> bool
     ensures { result ≡ frame_line line.now }
 {
-    let end = word_end(line, 0);
-    is_word(&line[0..end], b"FRAME")
+    first_word(line) == b"FRAME".as_slice()
 }
 
 // The header line of a grey stream, without its newline.

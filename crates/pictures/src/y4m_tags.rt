@@ -1,12 +1,10 @@
 // The tags of a Y4M header: a letter and a value each.
 ghost use Rattle.std.specs.Prelude.{◌≡◌};
-ghost use Rattle.pictures.specs.Bytes.{one_of};
-ghost use Rattle.pictures.specs.Y4m.{chroma_size, colour_space_of, header_from, names_420, no_tags, with_tag};
+ghost use Rattle.pictures.specs.Y4m.{chroma_size, colour_space_of, header_from, no_tags, with_tag};
 
 use crate::error::{Fault, PictureError};
 use crate::forms::{Size, Y4mHeader};
 use crate::number::parse_size;
-use crate::words::is_word;
 
 #[derive(Clone, Copy)]
 pub(crate) enum ColourSpace {
@@ -24,29 +22,16 @@ pub(crate) struct Tags {
     pub(crate) colours: ColourSpace,
 }
 
-// Whether chroma is halved both ways. The names differ in where a sample of chroma stands.
-fn is_420(name: &[u8]) -> bool
-    ensures { result ≡ one_of names_420 name.now }
-{
-    is_word(name, b"420")
-        || is_word(name, b"420jpeg")
-        || is_word(name, b"420paldv")
-        || is_word(name, b"420mpeg2")
-}
-
+// The names of 420 differ in where a sample of chroma stands.
 fn parse_colour_space(name: &[u8]) -> Option<ColourSpace>
     ensures { result ≡ colour_space_of name.now }
 {
-    if is_word(name, b"mono") {
-        Some(ColourSpace::Mono)
-    } else if is_420(name) {
-        Some(ColourSpace::Yuv420)
-    } else if is_word(name, b"422") {
-        Some(ColourSpace::Yuv422)
-    } else if is_word(name, b"444") {
-        Some(ColourSpace::Yuv444)
-    } else {
-        None
+    match name {
+        b"mono" => Some(ColourSpace::Mono),
+        b"420" | b"420jpeg" | b"420paldv" | b"420mpeg2" => Some(ColourSpace::Yuv420),
+        b"422" => Some(ColourSpace::Yuv422),
+        b"444" => Some(ColourSpace::Yuv444),
+        _ => None,
     }
 }
 
@@ -58,8 +43,8 @@ fn chroma_size(colours: ColourSpace, size: Size) -> usize
     let height = usize::from(size.height);
     match colours {
         ColourSpace::Mono => 0,
-        ColourSpace::Yuv420 => 2 * (((width + 1) / 2) * ((height + 1) / 2)),
-        ColourSpace::Yuv422 => 2 * (((width + 1) / 2) * height),
+        ColourSpace::Yuv420 => 2 * (width.div_ceil(2) * height.div_ceil(2)),
+        ColourSpace::Yuv422 => 2 * (width.div_ceil(2) * height),
         ColourSpace::Yuv444 => 2 * (width * height),
     }
 }

@@ -1,10 +1,12 @@
-use Rattle.std.proofs.Common.{◌≡◌, ◌-◌, ◌≤◌, length}
-use Rattle.pictures.specs.Y4m.{header_of}
-use Rattle.pictures.proofs.Cutting.{finished, left}
+use Rattle.std.proofs.Common.{◌≡◌, ◌+◌, length, drop}
+use Rattle.pictures.specs.Y4m.{header_of, with_tags}
+use Rattle.pictures.proofs.Cutting.{finished, spread, tag_words}
 use Rattle.pictures.proofs.y4m.parse_y4m_header.Given as goal
 
-abbrev pub invariant-loop-end : goal.invariant-loop-end
-invariant-loop-end l = (l.end ≤ length l.line) × (header_of l.line ≡ finished l.line (left l.line l.tags l.end))
-
-abbrev pub decreases-loop-end : goal.decreases-loop-end
-decreases-loop-end l = length l.line - l.end
+abbrev pub invariant-loop-tag : goal.invariant-loop-tag
+invariant-loop-tag l = record {
+  can_next : (goal.iterator-loop-tag).can_next l.tag-iterator;
+  finite : (goal.iterator-loop-tag).is_finite l.tag-iterator;
+  read : header_of l.line ≡ finished l.line (with_tags l.tags l.position (drop (length l.yielded) (tag_words l.line)));
+  within : l.position + spread (drop (length l.yielded) (tag_words l.line)) ≡ length l.line + 1;
+}

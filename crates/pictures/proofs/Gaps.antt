@@ -1,21 +1,8 @@
--- Where the front of some bytes ends, as a word, digits or a gap: a loop goes on to n, byte by byte.
+-- How long a gap is: a loop goes on to n, byte by byte.
 use Rattle.std.proofs.Common.{◌≡◌, ℕ, ◌+◌, ◌<◌, ◌≤◌, Bool, true, false, List, [], length, get_or, drop, sym, refl, ap, ◌∙◌, arith}
 use Rattle.pictures.specs.Pgm.{comment_after, gap, in_gap}
 use Rattle.std.proofs.lemmas.List.{drop_all, drop_more}
-use Rattle.std.proofs.lemmas.List.Sums.{prefix_len-drop_all, prefix_len-drop_no, prefix_len-drop_yes}
 use Rattle.std.proofs.lemmas.Bool.{cond-false, cond-true}
-use Rattle.std.specs.List.{prefix_len}
-
--- of bytes that pass a test
-module _ (p : ℕ → Bool) (bytes : List ℕ) (i n : ℕ) (goes : i + prefix_len p (drop i bytes) ≡ n) where
-  pub front_more : i < length bytes → p (get_or bytes i 0) ≡ true → i + 1 + prefix_len p (drop (i + 1) bytes) ≡ n
-  front_more inside e = omega (arith, prefix_len-drop_yes p bytes i 0 inside e)
-
-  pub front_stop : i < length bytes → p (get_or bytes i 0) ≡ false → i ≡ n
-  front_stop inside e = omega (arith, prefix_len-drop_no p bytes i 0 inside e)
-
-  pub front_end : length bytes ≤ i → i ≡ n
-  front_end past = omega (arith, prefix_len-drop_all p bytes i past)
 
 -- of whitespace and comments
 gap_none : (comment : Bool) → gap comment [] ≡ 0
