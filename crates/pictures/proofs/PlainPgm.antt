@@ -3,10 +3,10 @@ use Rattle.std.proofs.Common.{◌≡◌, ℕ, ◌+◌, ◌*◌, ◌^◌, ◌<◌
 use Rattle.pictures.proofs.Numbers.{digits_of, size_decimal}
 use Rattle.pictures.proofs.PgmChecked.{all_there, header_then_pixels}
 use Rattle.pictures.specs.Bytes.{blank, size_of}
-use Rattle.pictures.specs.Pgm.{comment_after, gap, in_gap, number_at, pgm_header_of, pgm_of, plain_header}
+use Rattle.pictures.specs.Pgm.{comment_after, gap, in_gap, number_at, pgm_from, pgm_header_of, pgm_of, plain_header}
 use Rattle.pictures.specs.Faults.{then}
 use Rattle.pictures.specs.Picture.{pixel_count}
-use Rattle.pictures.specs.Layout.{located, picture_at}
+use Rattle.pictures.specs.Layout.{located, picture_at, picture_from}
 use Rattle.pictures.specs.declared.forms.Layout.TheVariants.{Pictures}
 use Rattle.pictures.specs.declared.forms.Pgm.{Pgm}
 use Rattle.pictures.specs.declared.forms.Size.{Size}
@@ -65,7 +65,7 @@ module _ (bytes front rest : List ℕ) (b c n offset : ℕ) (is : bytes ≡ fron
 module _ (bytes : List ℕ) (width height max : Number) (magic : bytes_eq (take 2 bytes) (codes "P5") ≡ true) (wide : number_at bytes 2 ≡ Ok width)
     (high : number_at bytes width.end ≡ Ok height) (most : number_at bytes height.end ≡ Ok max) (grey : max.value ≡ 255)
     (delimiter : blank (get_or bytes max.end 0) ≡ true) where
-  pub header_read : pgm_header_of bytes ≡ Ok (record { size = record { width = width.value; height = height.value }; start = max.end + 1; end = max.end + 1 + width.value * height.value })
+  pub header_read : pgm_header_of bytes ≡ Ok (pgm_from (record { width = width.value; height = height.value }) (max.end + 1))
   header_read = rw (magic, wide, high, most, eq-eqb max.value 255 grey, delimiter)
 
 -- and all of whose pixels are there
@@ -73,7 +73,7 @@ module _ (bytes : List ℕ) (picture : Pgm) (read : pgm_header_of bytes ≡ Ok p
   pub picture_read : pgm_of bytes ≡ Ok picture
   picture_read = sym (header_then_pixels bytes) ∙ ap (λ r. then r (all_there bytes)) read ∙ rw (le-leb _ (length bytes) enough)
 
-  pub picture_located : picture_at picture.size bytes ≡ Ok (record { start = picture.start; end = picture.end; next = picture.end })
+  pub picture_located : picture_at picture.size bytes ≡ Ok (picture_from picture.start (pixel_count picture.size) 0)
   picture_located = rw (read, eq-eqb picture.size.width _ refl, eq-eqb picture.size.height _ refl, le-leb _ (length bytes) enough)
 
 decimal_255 : decimal 255 ≡ codes "255"
@@ -165,7 +165,7 @@ module _ (size : Size) (pixels more : List ℕ) (p : 0 < size.width) (w : size.w
   tail = pixels ++ more
 
   read : pgm_header_of (bytes size tail)
-      ≡ Ok (record { size = size; start = at_delimiter size + 1; end = at_delimiter size + 1 + pixel_count size })
+      ≡ Ok (pgm_from size (at_delimiter size + 1))
   read =
       header_read (bytes size tail) _ _ _ (magic_read size tail) (width_read size tail p w) (height_read size tail q h)
       (max_read size tail) refl (delimiter_read size tail)
@@ -175,15 +175,15 @@ module _ (size : Size) (pixels more : List ℕ) (p : 0 < size.width) (w : size.w
   enough = omega (arith, long_bytes size tail, length-append pixels more)
 
   pub plain_picture : pgm_of (plain_header size ++ (pixels ++ more))
-      ≡ Ok (record { size = size; start = length (plain_header size); end = length (plain_header size) + length pixels })
+      ≡ Ok (pgm_from size (length (plain_header size)))
   unfolding bytes tail
   plain_picture =
       picture_read (bytes size tail) _ read enough
-      ∙ (λ i. Ok (record { size = size; start = long_header size i; end = long_header size i + sym l i }))
+      ∙ ap (λ n. Ok (pgm_from size n)) (long_header size)
 
   pub plain_picture_located : located (Pictures size) (plain_header size ++ (pixels ++ more))
-      ≡ Ok (record { start = length (plain_header size); end = length (plain_header size) + length pixels; next = length (plain_header size) + length pixels })
+      ≡ Ok (picture_from (length (plain_header size)) (length pixels) 0)
   unfolding bytes tail
   plain_picture_located =
       picture_located (bytes size tail) _ read enough
-      ∙ (λ i. Ok (record { start = long_header size i; end = long_header size i + sym l i; next = long_header size i + sym l i }))
+      ∙ (λ i. Ok (picture_from (long_header size i) (sym l i) 0))

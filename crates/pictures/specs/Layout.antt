@@ -15,6 +15,7 @@ use Rattle.pictures.specs.declared.forms.Opening.{Opening}
 use Rattle.pictures.specs.declared.forms.PictureAt.{PictureAt}
 use Rattle.pictures.specs.declared.forms.Size.{Size}
 use Rattle.pictures.specs.declared.forms.Y4mHeader.{Y4mHeader}
+use Rattle.std.proofs.Math.Nat.{le-add_right}
 use Rattle.std.specs.List.{prefix_len}
 use Rattle.std.specs.Str.{bytes_eq}
 
@@ -43,17 +44,26 @@ abbrev pub layout_size : Layout → Size
 layout_size (Frames header) = header.size
 layout_size (Pictures size) = size
 
+-- WHERE A PICTURE STANDS whose pixels begin at a byte: so many pixels, and so many bytes up to the next picture
+abbrev pub picture_from : (start pixels more : ℕ) → PictureAt
+picture_from start pixels more =
+    record {
+      start = start;
+      end = start + pixels;
+      next = start + pixels + more;
+      ordered = le-add_right start pixels;
+      followed = le-add_right (start + pixels) more;
+    }
+
 -- A FRAME is a line, its luma and its chroma. Of the chroma nothing is read.
 abbrev pub frame_at : Y4mHeader → List ℕ → Result PictureAt PictureError
 frame_at header bytes =
     let line = line_length bytes in
-    let start = line + 1 in
-    let end = start + pixel_count header.size in
-    let next = end + header.chroma in
+    let at = picture_from (line + 1) (pixel_count header.size) header.chroma in
     then (required (nat_lt line (length bytes)) CutShort (length bytes)) λ _.
     then (required (frame_line (take line bytes)) NoFrame 0) λ _.
-    then (required (nat_le next (length bytes)) CutShort (length bytes)) λ _.
-    Ok (record { start = start; end = end; next = next })
+    then (required (nat_le at.next (length bytes)) CutShort (length bytes)) λ _.
+    Ok at
 
 -- A PICTURE OF A SEQUENCE has the size of the first.
 abbrev pub picture_at : Size → List ℕ → Result PictureAt PictureError
@@ -61,7 +71,7 @@ picture_at size bytes =
     then (pgm_header_of bytes) λ picture.
     then (required (picture.size.width == size.width && picture.size.height == size.height) OtherSize 0) λ _.
     then (required (nat_le picture.end (length bytes)) CutShort (length bytes)) λ _.
-    Ok (record { start = picture.start; end = picture.end; next = picture.end })
+    Ok (picture_from picture.start (pixel_count picture.size) 0)
 
 abbrev pub located : Layout → List ℕ → Result PictureAt PictureError
 located (Frames header) bytes = frame_at header bytes

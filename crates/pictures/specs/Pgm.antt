@@ -1,5 +1,5 @@
 -- Binary PGM pictures: what bytes mean. Assumes nothing: these are definitions.
-use Rattle.std.specs.Prelude.{ℕ, ◌+◌, ◌*◌, Bool, false, cond, not, ◌||◌, List, [], ◌∷◌, ◌++◌, length, take, drop, Ok, codes, decimal, Result, ◌==◌, nat_le, nat_lt, slice_index}
+use Rattle.std.specs.Prelude.{ℕ, ◌+◌, ◌*◌, Bool, false, cond, not, ◌||◌, List, [], ◌∷◌, ◌++◌, length, take, drop, Ok, codes, decimal, Result, ◌==◌, nat_le, nat_lt, refl, slice_index}
 use Rattle.pictures.specs.Bytes.{blank, size_of}
 use Rattle.pictures.specs.Faults.{or_fault, required, then}
 use Rattle.pictures.specs.Picture.{pixel_count}
@@ -33,6 +33,10 @@ number_at bytes offset =
     then (or_fault (size_of (between start end bytes)) BadNumber start) λ n.
     Ok (record { value = n; start = start; end = end })
 
+-- A PICTURE OF A SIZE whose pixels begin at a byte
+abbrev pub pgm_from : Size → (start : ℕ) → Pgm
+pgm_from size start = record { size = size; start = start; end = start + pixel_count size; whole = refl }
+
 -- A PICTURE: P5, the width, the height, 255, one byte of whitespace, and a byte for each pixel, row by row. What follows
 -- is no part of it.
 abbrev pub pgm_of : (bytes : List ℕ) → Result Pgm PictureError
@@ -44,10 +48,9 @@ pgm_of bytes =
     then (required (max.value == 255) BadMaxValue max.start) λ _.
     then (required (blank (slice_index bytes max.end)) NoDelimiter max.end) λ _.
     let size : Size = record { width = width.value; height = height.value } in
-    let start = max.end + 1 in
-    let end = start + pixel_count size in
-    then (required (nat_le end (length bytes)) CutShort (length bytes)) λ _.
-    Ok (record { size = size; start = start; end = end })
+    let picture = pgm_from size (max.end + 1) in
+    then (required (nat_le picture.end (length bytes)) CutShort (length bytes)) λ _.
+    Ok picture
 
 -- ITS HEADER ALONE says where its pixels end, before they are there.
 abbrev pub pgm_header_of : (bytes : List ℕ) → Result Pgm PictureError
@@ -59,8 +62,7 @@ pgm_header_of bytes =
     then (required (max.value == 255) BadMaxValue max.start) λ _.
     then (required (blank (slice_index bytes max.end)) NoDelimiter max.end) λ _.
     let size : Size = record { width = width.value; height = height.value } in
-    let start = max.end + 1 in
-    Ok (record { size = size; start = start; end = start + pixel_count size })
+    Ok (pgm_from size (max.end + 1))
 
 -- A HEADER AS IT IS MOSTLY WRITTEN, in three lines
 abbrev pub plain_header : Size → List ℕ

@@ -3,8 +3,8 @@ use Rattle.std.specs.Prelude.{◌≡◌, ℕ, ◌+◌, ◌*◌, ◌%◌, ◌^◌
 use Rattle.pictures.specs.Bytes.{cut}
 use Rattle.pictures.specs.Faults.{fault_at}
 use Rattle.pictures.specs.Picture.{padded, padded_picture_pixel, pixel_count}
-use Rattle.pictures.specs.Pgm.{pgm_of, plain_header}
-use Rattle.pictures.specs.Layout.{form_of, located, y4m_opening}
+use Rattle.pictures.specs.Pgm.{pgm_from, pgm_of, plain_header}
+use Rattle.pictures.specs.Layout.{form_of, located, picture_from, y4m_opening}
 use Rattle.pictures.specs.Y4m.{frame_line, header_of, header_text, line_of, rate_of}
 use Rattle.pictures.specs.declared.error.Fault.TheVariants.{BadMagic, BadMaxValue, BadNumber, CutShort, NoDelimiter, NoFrame, NoHeight, NoLineEnd, NoWidth, OtherSize, UnknownColourSpace}
 use Rattle.pictures.specs.declared.forms.Form.TheVariants.{Pgm, Text, Y4m}
@@ -24,13 +24,13 @@ ReadsBack = (size : Size) (rate : FrameRate) → 0 < size.width → size.width <
 abbrev pub PlainPicture : Type 0
 PlainPicture = (size : Size) (pixels more : List ℕ) → 0 < size.width → size.width < 2 ^ 16 → 0 < size.height → size.height < 2 ^ 16 → length pixels ≡ pixel_count size →
     pgm_of (plain_header size ++ (pixels ++ more))
-    ≡ Ok (record { size = size; start = length (plain_header size); end = length (plain_header size) + length pixels })
+    ≡ Ok (pgm_from size (length (plain_header size)))
 
 -- AND IN A FILE OF PICTURES OF ITS SIZE IT IS FOUND there, and the next begins where its pixels end.
 abbrev pub PlainPictureLocated : Type 0
 PlainPictureLocated = (size : Size) (pixels more : List ℕ) → 0 < size.width → size.width < 2 ^ 16 → 0 < size.height → size.height < 2 ^ 16 → length pixels ≡ pixel_count size →
     located (Pictures size) (plain_header size ++ (pixels ++ more))
-    ≡ Ok (record { start = length (plain_header size); end = length (plain_header size) + length pixels; next = length (plain_header size) + length pixels })
+    ≡ Ok (picture_from (length (plain_header size)) (length pixels) 0)
 
 -- A LINE IS ITS WORDS WITH A SPACE BETWEEN EACH TWO, and no word has a space, since it is cut at every one.
 pub record CutAtSpaces : Type 0 where
@@ -63,14 +63,14 @@ pub record Examples : Type 0 where
   pub written_frame : frame_line (codes "FRAME") ≡ true
   pub frame : frame_line (codes "FRAME Ip") ≡ true
   pub no_frame : frame_line (codes "FRAMES") ≡ false
-  pub picture : pgm_of (codes "P5\n# 2 by 1\n2 1\n255\nab") ≡ Ok (record { size = record { width = 2; height = 1 }; start = 20; end = 22 })
-  pub two_pictures : pgm_of (codes "P5 2 1 255 abP5 1 1 255 c") ≡ Ok (record { size = record { width = 2; height = 1 }; start = 11; end = 13 })
+  pub picture : pgm_of (codes "P5\n# 2 by 1\n2 1\n255\nab") ≡ Ok (pgm_from (record { width = 2; height = 1 }) 20)
+  pub two_pictures : pgm_of (codes "P5 2 1 255 abP5 1 1 255 c") ≡ Ok (pgm_from (record { width = 2; height = 1 }) 11)
   pub cut_short : pgm_of (codes "P5 2 1 255 a") ≡ fault_at CutShort 12
   pub cut_short_located : located (Pictures (record { width = 2; height = 1 })) (codes "P5 2 1 255 a") ≡ fault_at CutShort 12
   pub other_size : located (Pictures (record { width = 2; height = 1 })) (codes "P5 1 1 255 a") ≡ fault_at OtherSize 0
   pub stream : y4m_opening (codes "YUV4MPEG2 W2 H1 Cmono\nFRAME\nab") ≡ Ok (record { layout = Frames (record { size = record { width = 2; height = 1 }; chroma = 0 }); start = 22 })
   pub unended : y4m_opening (codes "YUV4MPEG2 W2 H1") ≡ fault_at NoLineEnd 15
-  pub grey_frame : located (Frames (record { size = record { width = 2; height = 1 }; chroma = 2 })) (codes "FRAME\nabuvFRAME\n") ≡ Ok (record { start = 6; end = 8; next = 10 })
+  pub grey_frame : located (Frames (record { size = record { width = 2; height = 1 }; chroma = 2 })) (codes "FRAME\nabuvFRAME\n") ≡ Ok (picture_from 6 2 2)
   pub cut_frame : located (Frames (record { size = record { width = 2; height = 1 }; chroma = 2 })) (codes "FRAME\nabu") ≡ fault_at CutShort 9
   pub other_line : located (Frames (record { size = record { width = 2; height = 1 }; chroma = 0 })) (codes "FRAM\nab") ≡ fault_at NoFrame 0
   pub y4m_form : form_of (codes "YUV4MPEG2 W2") ≡ Y4m

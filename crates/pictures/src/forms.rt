@@ -1,3 +1,6 @@
+// Plain values that the formats share.
+ghost use Rattle.std.specs.Prelude.{◌≡◌, ◌+◌, ◌*◌, ◌≤◌};
+
 // How many pixels wide and high a picture is.
 #[derive(Clone, Copy, PartialEq, Eq, Debug)]
 pub struct Size {
@@ -26,6 +29,7 @@ pub struct Pgm {
     pub size: Size,
     pub start: usize,
     pub end: usize,
+    ghost whole: { start + size.width * size.height ≡ end },
 }
 
 // What a file is, by its first bytes.
@@ -58,6 +62,8 @@ pub struct PictureAt {
     pub start: usize,
     pub end: usize,
     pub next: usize,
+    ghost ordered: { start ≤ end },
+    ghost followed: { end ≤ next },
 }
 
 // What a receiver says of the picture it shows.

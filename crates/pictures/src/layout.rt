@@ -48,7 +48,7 @@ pub fn open_pgm(bytes: &[u8]) -> Result<Opening, PictureError>
 // The frame that the bytes begin with.
 fn locate_frame(header: Y4mHeader, bytes: &[u8]) -> Result<PictureAt, PictureError>
     ensures value { result ≡ frame_at header bytes.now }
-    ensures within { IfOk result (λ p. (p.start ≤ p.end) × (p.end ≤ p.next) × (p.next ≤ length bytes.now)) }
+    ensures within { IfOk result (λ p. p.next ≤ length bytes.now) }
 {
     let line = find_byte(bytes, b'\n').ok_or(Fault::CutShort.at(bytes.len()))?;
     require(is_y4m_frame_line(&bytes[..line]), Fault::NoFrame, 0)?;
@@ -56,26 +56,18 @@ fn locate_frame(header: Y4mHeader, bytes: &[u8]) -> Result<PictureAt, PictureErr
     let luma = header.size.pixels();
     let size = luma.saturating_add(header.chroma);
     require(size <= bytes.len() - start, Fault::CutShort, bytes.len())?;
-    Ok(PictureAt {
-        start,
-        end: start + luma,
-        next: start + size,
-    })
+    Ok(PictureAt::new(start, luma, header.chroma))
 }
 
 // The picture of that size that the bytes begin with.
 fn locate_picture(size: Size, bytes: &[u8]) -> Result<PictureAt, PictureError>
     ensures value { result ≡ picture_at size bytes.now }
-    ensures within { IfOk result (λ p. (p.start ≤ p.end) × (p.end ≤ p.next) × (p.next ≤ length bytes.now)) }
+    ensures within { IfOk result (λ p. p.next ≤ length bytes.now) }
 {
     let picture = parse_pgm_header(bytes)?;
     require(picture.size == size, Fault::OtherSize, 0)?;
     require(picture.end <= bytes.len(), Fault::CutShort, bytes.len())?;
-    Ok(PictureAt {
-        start: picture.start,
-        end: picture.end,
-        next: picture.end,
-    })
+    Ok(PictureAt::new(picture.start, size.pixels(), 0))
 }
 
 impl Layout {
@@ -92,7 +84,7 @@ impl Layout {
     // The picture that the bytes begin with.
     pub fn locate(self, bytes: &[u8]) -> Result<PictureAt, PictureError>
         ensures value { result ≡ located self bytes.now }
-        ensures within { IfOk result (λ p. (p.start ≤ p.end) × (p.end ≤ p.next) × (p.next ≤ length bytes.now)) }
+        ensures within { IfOk result (λ p. p.next ≤ length bytes.now) }
     {
         match self {
             Layout::Frames(header) => locate_frame(header, bytes),

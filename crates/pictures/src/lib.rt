@@ -9,6 +9,7 @@ mod layout;
 mod number;
 mod padding;
 mod pgm_parsing;
+mod places;
 mod promises;
 mod rate;
 mod size;

@@ -83,8 +83,7 @@ fn read_number(bytes: &[u8], offset: usize) -> Result<Number, PictureError>
 
 // Reads the header that the bytes begin with. The pixels need not be there yet.
 pub(crate) fn parse_pgm_header(bytes: &[u8]) -> Result<Pgm, PictureError>
-    ensures value { result ≡ pgm_header_of bytes.now }
-    ensures sizes { IfOk result (λ p. p.start + p.size.width * p.size.height ≡ p.end) }
+    ensures { result ≡ pgm_header_of bytes.now }
 {
     require(bytes.starts_with(b"P5"), Fault::BadMagic, 0)?;
     let width = read_number(bytes, 2)?;
@@ -97,18 +96,13 @@ pub(crate) fn parse_pgm_header(bytes: &[u8]) -> Result<Pgm, PictureError>
         width: width.value,
         height: height.value,
     };
-    let start = max.end + 1;
-    Ok(Pgm {
-        size,
-        start,
-        end: start + size.pixels(),
-    })
+    Ok(Pgm::new(size, max.end + 1))
 }
 
 // Reads the picture that the bytes begin with.
 pub fn parse_pgm(bytes: &[u8]) -> Result<Pgm, PictureError>
     ensures value { result ≡ pgm_of bytes.now }
-    ensures within { IfOk result (λ p. (p.start + p.size.width * p.size.height ≡ p.end) × (p.end ≤ length bytes.now)) }
+    ensures within { IfOk result (λ p. p.end ≤ length bytes.now) }
 {
     let picture = parse_pgm_header(bytes)?;
     require(picture.end <= bytes.len(), Fault::CutShort, bytes.len())?;

@@ -8,4 +8,4 @@ pub returns-in_err-picture-clause-value : goal.returns-in_err-picture-clause-val
 returns-in_err-picture-clause-value c =
     let bytes = c.args.bytes.now in
     let p = err_from_is_err_and c.from_residual.result c.from_residual.ensures.1 in
-    rw (p.1, p.2) (ap (λ r. then r (all_there bytes)) c.in_err-picture.ensures.value ∙ header_then_pixels bytes)
+    rw (p.1, p.2) (ap (λ r. then r (all_there bytes)) c.in_err-picture.ensures ∙ header_then_pixels bytes)
