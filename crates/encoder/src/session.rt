@@ -81,6 +81,7 @@ impl Encoder {
             source,
             reference: &self.pixels[..pixels],
         };
+        // There is no heap: the scratch picture has room for one of any format.
         let mut scratch = [0; 3584];
         let picture = &mut scratch[..pixels];
         let length = code_frame(input, buffer, picture)?;
