@@ -15,9 +15,9 @@ module _ (c : goal.After-slice_known-in-loop-row-1) where
   rows_within : (c.loop-row.row + 1) * (16 * c.args.self.now.format.across) ≤ length c.loop-row.output
   rows_within = omega (arith, mul-le (c.loop-row.row + 1) (16 * c.args.self.now.format.across) c.args.self.now.format.down (16 * c.args.self.now.format.across) (omega arith) (omega arith))
 
-  row_length : length c.encode_row.new.band ≡ 16 * c.args.self.now.format.across
+  row_length : length c.encode.new.band ≡ 16 * c.args.self.now.format.across
   row_length =
-      let h = c.encode_row.auto.band in
+      let h = c.encode.auto.band in
       let e = ap (λ n. (c.loop-row.row + 1) * (16 * n)) c.across-band.ensures in
       let g = length-between c.loop-row.output (c.loop-row.row * (16 * c.across-band.result)) ((c.loop-row.row + 1) * (16 * c.across-band.result)) (omega (arith, rows_within)) in
       omega (arith, row_start)
@@ -26,5 +26,5 @@ pub loop-row-preserved : goal.loop-row-preserved
 loop-row-preserved c e s =
     let g = c.loop-row.invariant e s in
     frame_more c.args.self.now c.loop-row.row _ _
-    c.loop-row.writer c.encode_row.new.writer c.loop-row.output c.encode_row.new.band g (c.encode_row.ensures g.next)
+    c.loop-row.writer c.encode.new.writer c.loop-row.output c.encode.new.band g (c.encode.ensures g.next)
     (row_start c) (row_length c) (omega (arith, row_start c, rows_within c))
