@@ -11,7 +11,7 @@ use Rattle.pictures.specs.declared.y4m_tags.Tags.{Tags}
 use Rattle.std.proofs.lemmas.Bool.{ltb-false}
 use Rattle.std.proofs.lemmas.List.{drop_all, drop_more}
 use Rattle.std.proofs.lemmas.List.Sums.{prefix_len-le-length}
-use Rattle.std.specs.List.{onto_first, position, position_or_len, prefix_len, slice_split}
+use Rattle.std.specs.List.{onto_first, position, prefix_len, slice_split}
 use Rattle.std.specs.Str.{bytes_eq}
 
 abbrev pub is_space : ℕ → Bool

@@ -1,5 +1,5 @@
 -- A picture with a plain header is read: each number stands after one byte of whitespace, and ends before the next.
-use Rattle.std.proofs.Common.{◌≡◌, ℕ, ◌+◌, ◌*◌, ◌^◌, ◌<◌, ◌≤◌, true, false, List, [], ◌∷◌, ◌++◌, length, get_or, take, drop, Ok, codes, decimal, sym, refl, ap, ◌∙◌, append_assoc, one-add, arith}
+use Rattle.std.proofs.Common.{◌≡◌, ℕ, ◌+◌, ◌^◌, ◌<◌, ◌≤◌, true, false, List, [], ◌∷◌, ◌++◌, length, get_or, take, drop, Ok, codes, decimal, sym, refl, ap, ◌∙◌, append_assoc, one-add, arith}
 use Rattle.pictures.proofs.Numbers.{digits_of, size_decimal}
 use Rattle.pictures.proofs.PgmChecked.{all_there, header_then_pixels}
 use Rattle.pictures.specs.Bytes.{blank, size_of}

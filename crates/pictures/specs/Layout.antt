@@ -1,5 +1,5 @@
 -- Files of pictures: what they are, how they begin, and where each picture's grey pixels stand. Assumes nothing: these are definitions.
-use Rattle.std.specs.Prelude.{ℕ, ◌+◌, ◌*◌, cond, ◌&&◌, List, length, take, Ok, codes, Result, ◌==◌, nat_le, nat_lt}
+use Rattle.std.specs.Prelude.{ℕ, ◌+◌, cond, ◌&&◌, List, length, take, Ok, codes, Result, ◌==◌, nat_le, nat_lt}
 use Rattle.pictures.specs.Bytes.{not_byte}
 use Rattle.pictures.specs.Faults.{required, then}
 use Rattle.pictures.specs.Pgm.{pgm_header_of}

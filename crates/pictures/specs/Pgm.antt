@@ -1,5 +1,5 @@
 -- Binary PGM pictures: what bytes mean. Assumes nothing: these are definitions.
-use Rattle.std.specs.Prelude.{ℕ, ◌+◌, ◌*◌, Bool, false, cond, not, ◌||◌, List, [], ◌∷◌, ◌++◌, length, take, drop, Ok, codes, decimal, Result, ◌==◌, nat_le, nat_lt, refl, slice_index}
+use Rattle.std.specs.Prelude.{ℕ, ◌+◌, Bool, false, cond, not, ◌||◌, List, [], ◌∷◌, ◌++◌, length, take, drop, Ok, codes, decimal, Result, ◌==◌, nat_le, nat_lt, refl, slice_index}
 use Rattle.pictures.specs.Bytes.{blank, size_of}
 use Rattle.pictures.specs.Faults.{or_fault, required, then}
 use Rattle.pictures.specs.Picture.{pixel_count}

@@ -1,5 +1,5 @@
 // Binary PGM pictures.
-ghost use Rattle.std.specs.Prelude.{◌≡◌, ◌+◌, ◌*◌, ◌≤◌, false, length, drop, IfOk};
+ghost use Rattle.std.specs.Prelude.{◌≡◌, ◌≤◌, false, length, IfOk};
 ghost use Rattle.pictures.specs.Bytes.{blank};
 ghost use Rattle.pictures.specs.Pgm.{comment_after, gap, in_gap, number_at, pgm_header_of, pgm_of};
 ghost use Rattle.std.specs.Char.{is_ascii_digit};

@@ -4,6 +4,7 @@ ghost use Rattle.pictures.specs.Faults.{required};
 
 use crate::error::{Fault, PictureError};
 
+// `test.then_some(()).ok_or(..)?` at each step would be no plainer.
 pub(crate) fn require(test: bool, fault: Fault, position: usize) -> Result<(), PictureError>
     ensures { result ≡ required test fault position }
 {

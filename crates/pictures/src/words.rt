@@ -1,4 +1,4 @@
-// Bytes that something else ends.
+// Where a byte stands, and a line's first word.
 ghost use Rattle.std.specs.Prelude.{◌≡◌, ◌==◌, position};
 ghost use Rattle.pictures.specs.Bytes.{cut};
 ghost use Rattle.pictures.specs.Y4m.{first_word};

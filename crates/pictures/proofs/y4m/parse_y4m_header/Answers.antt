@@ -1,6 +1,6 @@
-use Rattle.std.proofs.Common.{◌+◌, length, drop, Ok, sym, ap, ◌∙◌, arith, of_calls, rules, tests}
-use Rattle.pictures.proofs.Cutting.{finished, header_is, is_space, no_more, spread, tag_words, tags_spread, turn_fault, turn_more, turn_spread, was_required}
-use Rattle.pictures.specs.Y4m.{header_of, with_tags}
+use Rattle.std.proofs.Common.{◌+◌, length, sym, ap, ◌∙◌, arith, of_calls, rules, tests}
+use Rattle.pictures.proofs.Cutting.{finished, header_is, is_space, no_more, tag_words, tags_spread, turn_fault, turn_more, turn_spread, was_required}
+use Rattle.pictures.specs.Y4m.{with_tags}
 use Rattle.std.proofs.lemmas.Bool.{cond-true}
 use Rattle.std.proofs.lemmas.Iterator.Adapters.{YieldsList-from_skip}
 use Rattle.std.proofs.lemmas.Iterator.Consumers.{YieldsList-at, YieldsList-end, YieldsList-turn}
