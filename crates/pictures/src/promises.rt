@@ -25,6 +25,7 @@ pub fn padding_keeps()
     ensures { PaddingKeeps }
 {}
 
+#[tactic(auto, unfolding(crate::specs::Bytes::cut, crate::specs::Bytes::size_of, crate::specs::Pgm::gap, crate::specs::Y4m::with_tags))]
 pub fn worked_examples()
     ensures { Examples }
 {}
