@@ -1,3 +1,1 @@
-pub mod Growing
 pub mod LineEnds
-pub mod Taking

@@ -1,54 +1,52 @@
 -- The end of a line is looked for where it was not yet.
-use Rattle.std.proofs.Common.{◌≡◌, ℕ, ◌+◌, ◌<◌, ◌≤◌, Bool, true, false, not, ◌||◌, ltb, leb, List, [], ◌++◌, length, get_or, vec_items, sym, refl, ap, ◌∙◌, subst, arith}
-use Rattle.console.proofs.Growing.{not_false, or_true}
-use Rattle.console.specs.Source.{Grown, LineEnd}
-use Rattle.console.specs.declared.source.Source.{Source}
-use Rattle.std.proofs.lemmas.List.{append-nil, get_or_append_left, length-append, nil_from_length}
-use Rattle.std.proofs.lemmas.Bool.{le-leb, lt-ltb, ltb-false, ltb-true}
+use Rattle.std.proofs.Common.{◌≡◌, ℕ, ◌+◌, ◌-◌, ◌<◌, ◌≤◌, ◌==◌, Bool, true, false, ltb, List, length, take, drop, get_or, Some, None, sym, refl, ap, ◌∙◌, arith}
+use Rattle.std.proofs.lemmas.Bool.{eqb-false, eqb-true, ltb-false}
+use Rattle.std.proofs.lemmas.List.{get_or-drop, length-drop, take_rest}
+use Rattle.std.proofs.lemmas.List.Quantifiers.{position-Some}
+use Rattle.std.proofs.lemmas.List.Sums.{fails_before_first}
+use Rattle.std.proofs.lemmas.Option.{none-some}
+use Rattle.std.specs.List.{position, position_or_len}
 
 -- no newline stands before a place
 abbrev pub NoneBefore : List ℕ → ℕ → Type 0
 NoneBefore bytes end = (k : ℕ) → k < end → get_or bytes k 0 ≡ 10 → ⊥
 
-by_test : (bytes : List ℕ) (start end k : ℕ) (early : Bool) → ltb k start ≡ early → NoneBefore bytes start → ((j : ℕ) → start ≤ j → j < end → get_or bytes j 0 ≡ 10 → ⊥)
-    → k < end → get_or bytes k 0 ≡ 10 → ⊥
-by_test bytes start end k true e old new h t = old k (ltb-true _ _ e) t
-by_test bytes start end k false e old new h t = new k (ltb-false _ _ e) h t
+abbrev pub is_newline : ℕ → Bool
+is_newline byte = byte == 10
 
-pub further : (held bytes : List ℕ) (start end : ℕ) → bytes ≡ held → NoneBefore held start → ((k : ℕ) → start ≤ k → k < end → get_or bytes k 0 ≡ 10 → ⊥) → NoneBefore held end
-further held bytes start end e old new k h t =
-    by_test held start end k _ refl old (λ j s l u. new j s l (subst (λ xs. get_or xs j 0 ≡ 10) (sym e) u)) h t
+nowhere : (xs : List ℕ) (early : Bool) → ltb (position_or_len is_newline xs) (length xs) ≡ early → position is_newline xs ≡ None → length xs ≤ position_or_len is_newline xs
+nowhere xs true e none = absurd (none-some (position_or_len is_newline xs) (sym none ∙ rw e refl))
+nowhere xs false e none = omega (arith, ltb-false _ _ e)
 
--- what was looked at stays as it was
-pub kept : (a b : Source) (end : ℕ) → Grown a b → end ≤ length (vec_items a.held) → NoneBefore (vec_items a.held) end → NoneBefore (vec_items b.held) end
-kept a b end g w old k h t =
-    old k h (sym (get_or_append_left (vec_items a.held) g.more 0 k (omega (arith, w, h))) ∙ subst (λ xs. get_or xs k 0 ≡ 10) g.held t)
+-- the first newline of what stands from a place on
+module _ (bytes : List ℕ) (start : ℕ) (within : start ≤ length bytes) where
+  abbrev pub rest : List ℕ
+  rest = take (length bytes - start) (drop start bytes)
 
-pub unmoved : (a b : Source) → Grown a b → ltb (length (vec_items a.held)) (length (vec_items b.held)) ≡ false → vec_items b.held ≡ vec_items a.held
-unmoved a b g e =
-    let l : length (vec_items b.held) ≡ length (vec_items a.held) + length g.more = ap length g.held ∙ length-append (vec_items a.held) g.more in
-    let none : g.more ≡ [] = nil_from_length g.more (omega (arith, l, ltb-false _ _ e)) in
-    g.held ∙ ap (λ xs. vec_items a.held ++ xs) none ∙ append-nil (vec_items a.held)
+  same : rest ≡ drop start bytes
+  same = take_rest bytes start
 
-pub ended_line : (s : Source) (limit end : ℕ) (bytes : List ℕ) → vec_items s.held ≡ bytes → end ≤ length bytes → NoneBefore (vec_items s.held) end
-    → (end < length bytes → get_or bytes end 0 ≡ 10) → (ltb end (length (vec_items s.held)) || (leb limit end || s.ended)) ≡ true → LineEnd s limit end
-ended_line s limit end bytes e w none f h =
-    record {
-      within = subst (λ xs. end ≤ length xs) (sym e) w;
-      before = none;
-      found = λ l. subst (λ xs. get_or xs end 0 ≡ 10) (sym e) (f (subst (λ xs. end < length xs) e l));
-      whole = h;
-    }
+  at : (k : ℕ) → start ≤ k → get_or rest (k - start) 0 ≡ get_or bytes k 0
+  at k s =
+      let e : start + (k - start) ≡ k = omega (arith, s) in
+      ap (λ xs. get_or xs (k - start) 0) same ∙ get_or-drop start bytes (k - start) 0 ∙ ap (λ n. get_or bytes n 0) e
 
-pub by_newline : (s : Source) (limit end : ℕ) → end < length (vec_items s.held) → (ltb end (length (vec_items s.held)) || (leb limit end || s.ended)) ≡ true
-by_newline s limit end h = rw (lt-ltb end (length (vec_items s.held)) h) refl
+  long : length rest ≡ length bytes - start
+  long = ap length same ∙ length-drop start bytes
 
-pub by_limit : (s : Source) (limit end : ℕ) → limit ≤ end → (ltb end (length (vec_items s.held)) || (leb limit end || s.ended)) ≡ true
-by_limit s limit end h = rw (le-leb limit end h) (or_true (ltb end (length (vec_items s.held))))
+  pub before_newline : (i : ℕ) → position is_newline rest ≡ Some i → (k : ℕ) → start ≤ k → k < start + i → get_or bytes k 0 ≡ 10 → ⊥
+  before_newline i e k s h t = eqb-false _ _ ((position-Some is_newline rest i 0 e).2 (k - start) (omega (arith, s, h))) (at k s ∙ t)
 
-either : (a b : Bool) → (a || (b || true)) ≡ true
-either true b = refl
-either false b = or_true b
+  pub at_newline : (i : ℕ) → position is_newline rest ≡ Some i → get_or bytes (start + i) 0 ≡ 10
+  at_newline i e =
+      let back : start + i - start ≡ i = omega arith in
+      let s : start ≤ start + i = omega arith in
+      sym (at (start + i) s) ∙ ap (λ n. get_or rest n 0) back ∙ eqb-true _ _ (position-Some is_newline rest i 0 e).1
 
-pub by_end : (s : Source) (limit end : ℕ) → not s.ended ≡ false → (ltb end (length (vec_items s.held)) || (leb limit end || s.ended)) ≡ true
-by_end s limit end e = rw (not_false s.ended e) (either (ltb end (length (vec_items s.held))) (leb limit end))
+  pub newline_within : (i : ℕ) → position is_newline rest ≡ Some i → start + i < length bytes
+  newline_within i e = omega (arith, (position-Some is_newline rest i 0 e).0, long, within)
+
+  pub no_newline : position is_newline rest ≡ None → (k : ℕ) → start ≤ k → k < length bytes → get_or bytes k 0 ≡ 10 → ⊥
+  no_newline e k s h t =
+      let far : k - start < position_or_len is_newline rest = omega (arith, nowhere rest _ refl e, long, s, h) in
+      eqb-false _ _ (fails_before_first is_newline rest (k - start) 0 far) (at k s ∙ t)

@@ -1,2 +1,4 @@
+pub mod Arguments
+pub mod Packets
 pub mod Refusals
 pub mod Source

@@ -1,9 +1,16 @@
 -- What an error of the layers below is refused as. Assumes nothing: these are definitions.
+use Rattle.std.specs.Prelude.{ℕ}
 use Rattle.console.specs.declared.refusal.Refusal.{Refusal}
 use Rattle.console.specs.declared.refusal.Refusal.TheVariants.{OutOfMemory, Rejected}
+use Rattle.text.specs.Placing.{placed_at}
 use Rattle.text.specs.declared.error.PacketError.{PacketError}
 use Rattle.text.specs.declared.error.PacketError.TheVariants as packet
 
 abbrev pub of_packet : PacketError → Refusal
 of_packet (packet.Rejected rejection) = Rejected rejection
 of_packet packet.OutOfMemory = OutOfMemory
+
+-- a refusal of what begins at that offset of the input
+abbrev pub placed_from : (offset : ℕ) → Refusal → Refusal
+placed_from offset (Rejected rejection) = Rejected (placed_at offset rejection)
+placed_from offset refusal = refusal

@@ -1,4 +1,8 @@
 // The words after a program's name.
+ghost use Rattle.std.specs.Prelude.{◌≤◌};
+ghost use Rattle.std.specs.Iterator.{at_most};
+ghost use Rattle.console.specs.Arguments.{words_left};
+
 use crate::refusal::Refusal;
 use std::alloc::Global;
 use std::env;
@@ -6,47 +10,61 @@ use std::env::Args;
 
 #[derive(Drop)]
 pub struct Arguments {
+    // The program's name, for what is said of its words.
+    program: &'static str,
     words: Args,
     heap: Global,
 }
 
 impl Arguments {
-    pub fn new(rt: &HostRuntime) -> Result<Arguments, Refusal> {
+    pub fn new(rt: &HostRuntime, program: &'static str) -> Result<Arguments, Refusal> {
         let mut words = env::args(rt)?;
         let _ = words.next();
         Ok(Arguments {
+            program,
             words,
             heap: rt.alloc(),
         })
     }
 
-    pub fn next(&mut self) -> Option<String> {
-        self.words.next()
-    }
-
     // The word after an option.
-    pub fn value(&mut self, option: &str) -> Result<String, Refusal> {
-        match self.words.next() {
-            Some(word) => Ok(word),
-            None => Err(Refusal::Sentence(format!(in self.heap;
-                "a word is missing after {option}"
-            )?)),
-        }
+    pub fn value(&mut self, option: &str) -> Result<String, Refusal>
+        ensures { words_left self.new ≤ words_left self.old }
+    {
+        let heap = self.heap;
+        self.words.next().ok_or_else(|| {
+            Refusal::sentence(format!(in heap; "a word is missing after {option}"))
+        })
     }
 
     // The number after an option.
-    pub fn number(&mut self, option: &str) -> Result<u64, Refusal> {
+    pub fn number(&mut self, option: &str) -> Result<u64, Refusal>
+        ensures { words_left self.new ≤ words_left self.old }
+    {
+        let heap = self.heap;
         let word = self.value(option)?;
-        match word.as_str().parse::<u64>() {
-            Ok(number) => Ok(number),
-            Err(_) => Err(Refusal::Sentence(format!(in self.heap;
+        word.as_str().parse::<u64>().map_err(|_| {
+            Refusal::sentence(format!(in heap;
                 "after {option} should stand a number, and not `{word}`"
-            )?)),
-        }
+            ))
+        })
+    }
+
+    // What is said of a word that looks like an option and is none.
+    pub fn unknown_option(&self, word: &str) -> Refusal {
+        let program = self.program;
+        Refusal::sentence(format!(in self.heap;
+            "there is no option `{word}`; see {program} --help"
+        ))
     }
 }
 
-// What is said of a word that looks like an option and is none.
-pub fn unknown_option(heap: Global, program: &str, word: &str) -> Result<Refusal, Refusal> {
-    Ok(Refusal::Sentence(format!(in heap; "there is no option `{word}`; see {program} --help")?))
+impl Iterator for Arguments {
+    type Item = String;
+
+    ghost remaining = { λ arguments. at_most (words_left arguments) };
+
+    fn next(&mut self) -> Option<String> {
+        self.words.next()
+    }
 }

@@ -2,7 +2,7 @@
 ghost use Rattle.std.specs.Prelude.{◌≡◌, ◌+◌, ◌-◌, ◌^◌, min, true, false, not, ◌||◌, [], length, drop, IfOk, OnOk, nat_le, nat_lt};
 ghost use Rattle.console.specs.Source.{Grown};
 
-use crate::input::Input;
+use crate::file_or::Input;
 use crate::refusal::Refusal;
 use crate::source::Source;
 use std::alloc::Global;
@@ -58,11 +58,7 @@ impl Source {
         ensures grown { Grown self.old self.new }
         ensures filled { OnOk result ((nat_le count (length self.new.held.items) || self.new.ended) ≡ true) }
     {
-        for _ in 0..u64::MAX {
-            if self.held.len() >= count || !self.read_more()? {
-                break;
-            }
-        }
+        while self.held.len() < count && self.read_more()? {}
         Ok(())
     }
 

@@ -3,18 +3,22 @@
 
 mod arguments;
 mod bytes;
-mod input;
+mod file_or;
+mod line;
 mod lines;
-mod output;
 mod packets;
 mod refusal;
 mod refusals;
 mod source;
+#[cfg(test)]
+mod tests;
+mod wish;
 
-pub use arguments::{Arguments, unknown_option};
-pub use input::Input;
-pub use lines::Line;
-pub use output::Output;
+pub use arguments::Arguments;
+pub use file_or::{FileOr, Input, Output};
+pub use line::Line;
+pub use lines::Lines;
 pub use packets::PacketSource;
-pub use refusal::{Refusal, report};
+pub use refusal::{Refusal, exit_code, report};
 pub use source::Source;
+pub use wish::{Wish, read_wish};

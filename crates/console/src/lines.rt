@@ -1,32 +1,34 @@
 // A source read line by line.
-ghost use Rattle.std.specs.Prelude.{◌≡◌, ℕ, ◌<◌, ◌≤◌, length, IfOk, ◌≢◌, slice_index};
+ghost use Rattle.std.specs.Prelude.{◌≡◌, ℕ, ◌<◌, ◌≤◌, length, IfOk, IfSome, None, Ok, [], ◌≢◌, slice_index, true, ◌-◌, ◌^◌, ◌==◌};
+ghost use Rattle.std.specs.Iterator.{at_most};
+ghost use Rattle.std.specs.List.{position};
 ghost use Rattle.console.specs.Source.{Grown, LineEnd};
 
+use crate::line::Line;
 use crate::refusal::Refusal;
 use crate::source::Source;
 use frame::{Rejection, VideoHeader};
 use std::alloc::Global;
 use std::str;
 
-// A line without its newline, and where it begins in the input.
-#[derive(Drop)]
-pub struct Line {
-    pub text: String,
-    pub position: u64,
+// Where the first newline stands.
+fn newline(bytes: &[u8]) -> Option<usize>
+    ensures { result ≡ position (λ byte. byte == 10) bytes.now }
+{
+    bytes.iter().position(|byte| *byte == b'\n')
 }
 
 // The first newline from `start` on, or the end.
 fn line_end(bytes: &[u8], start: usize) -> usize
+    requires { start ≤ length bytes.now }
     ensures within { result ≤ length bytes.now }
     ensures before { (k : ℕ) → start ≤ k → k < result → slice_index bytes.now k ≢ 10 }
     ensures found { result < length bytes.now → slice_index bytes.now result ≡ 10 }
 {
-    for index in start..bytes.len() {
-        if bytes[index] == b'\n' {
-            return index;
-        }
+    match newline(&bytes[start..]) {
+        Some(index) => start + index,
+        None => bytes.len(),
     }
-    bytes.len()
 }
 
 // A line as it is where lines end with a carriage return and a line feed.
@@ -41,42 +43,74 @@ impl Source {
         ensures line { IfOk result (λ end. LineEnd self.new limit end) }
     {
         let mut end = 0;
-        for _ in 0..u64::MAX {
+        loop {
             end = line_end(self.front(), end);
             let found = end < self.front().len();
             if found || end >= limit || !self.read_more()? {
-                break;
+                return Ok(end);
             }
         }
-        Ok(end)
     }
 
     // The next line, or none at the end.
-    pub fn next_line(&mut self, heap: Global) -> Result<Option<Line>, Refusal> {
+    pub fn next_line(&mut self, heap: Global) -> Result<Option<Line>, Refusal>
+        ensures position { IfOk result (λ next. IfSome next (λ line. line.position ≡ self.old.position)) }
+        ensures end { result ≡ Ok None → (self.new.held.items ≡ []) × (self.new.ended ≡ true) }
+    {
         let end = self.read_to_line_end(usize::MAX)?;
-        if self.front().is_empty() {
-            return Ok(None);
-        }
         let position = self.position();
         let front = self.front();
-        let ended = end < front.len();
-        let text = match str::from_utf8(&front[0..end.min(front.len())]) {
-            Ok(line) if ended => String::from_str(heap, without_return(line))?,
-            Ok(line) => String::from_str(heap, line)?,
-            Err(error) => return Err(Refusal::Rejected(text::placed(
-                Rejection::BadText(error.valid_up_to() as u64),
-                position,
-            ))),
+        if front.is_empty() {
+            return Ok(None);
+        }
+        let line = str::from_utf8(&front[..end])
+            .map_err(|error| Rejection::BadText(error.valid_up_to() as u64))
+            .map_err(|rejection| text::placed(rejection, position))?;
+        let line = if end < front.len() {
+            without_return(line)
+        } else {
+            line
         };
-        self.take(end.saturating_add(1));
+        let text = String::from_str(heap, line)?;
+        self.take(end + 1);
         Ok(Some(Line { text, position }))
+    }
+
+    // The lines from here on.
+    pub fn lines(&mut self, heap: Global) -> Lines<'_>
+        ensures { result.left ≡ 2 ^ 64 - 1 }
+    {
+        Lines {
+            source: self,
+            heap,
+            left: u64::MAX,
+        }
     }
 
     // The header line of a text.
     pub fn header_line(&mut self, heap: Global) -> Result<VideoHeader, Refusal> {
-        match self.next_line(heap)? {
-            Some(line) => Ok(text::parse_header(line.text.as_str())?),
-            None => Err("there is no input; its first line should be: size A D step S".into()),
-        }
+        let line = self.next_line(heap)?.ok_or(
+            "there is no input; its first line should be: size A D step S",
+        )?;
+        Ok(text::parse_header(line.text.as_str())?)
+    }
+}
+
+// The lines of a source, one after another. Nothing says that an input ends, so it counts them.
+#[derive(Drop)]
+pub struct Lines<'a> {
+    source: &'a mut Source,
+    heap: Global,
+    left: u64,
+}
+
+impl<'a> Iterator for Lines<'a> {
+    type Item = Result<Line, Refusal>;
+
+    ghost remaining = { λ lines. at_most lines.left };
+
+    fn next(&mut self) -> Option<Result<Line, Refusal>> {
+        self.left = self.left.checked_sub(1)?;
+        self.source.next_line(self.heap).transpose()
     }
 }

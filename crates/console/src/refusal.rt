@@ -1,8 +1,11 @@
 // Why a program ends with status 1.
-ghost use Rattle.std.specs.Prelude.{◌≡◌};
+ghost use Rattle.std.specs.Prelude.{◌≡◌, MatchResult, if◌then◌else◌, is_ok};
+ghost use Rattle.std.specs.Process.{exit_status};
 
 use frame::Rejection;
 use pictures::PictureError;
+use std::alloc::AllocError;
+use std::process::ExitCode;
 use std::{fmt, io};
 
 #[derive(Drop)]
@@ -18,6 +21,18 @@ pub enum Refusal {
     Unopened(String, io::Error),
     System(io::Error),
     OutOfMemory,
+}
+
+impl Refusal {
+    // A sentence, if there was memory to make it.
+    pub fn sentence(made: Result<String, AllocError>) -> Refusal
+        ensures { MatchResult made (λ sentence. result ≡ Refusal.Sentence sentence) (λ _. result ≡ Refusal.OutOfMemory) }
+    {
+        match made {
+            Ok(sentence) => Refusal::Sentence(sentence),
+            Err(_) => Refusal::OutOfMemory,
+        }
+    }
 }
 
 impl fmt::Display for Refusal {
@@ -42,4 +57,14 @@ pub fn report(rt: &HostRuntime, program: &str, res: Result<(), Refusal>) -> Resu
         let _ = eprintln!(rt; "{program}: {refusal}");
     }
     res
+}
+
+// The status that a program ends with, after it said on standard error what it refuses.
+pub fn exit_code(rt: &HostRuntime, program: &str, res: Result<(), Refusal>) -> ExitCode
+    ensures { exit_status result ≡ (if is_ok res then 0 else 1) }
+{
+    match report(rt, program, res) {
+        Ok(()) => ExitCode::SUCCESS,
+        Err(_) => ExitCode::FAILURE,
+    }
 }

@@ -1,4 +1,4 @@
-use crate::input::Input;
+use crate::file_or::Input;
 
 // Bytes that are read piece by piece, and looked at before they are taken.
 #[derive(Drop)]

@@ -5,7 +5,6 @@ use console::Refusal;
 use encoder::Encoder;
 use frame::{Format, VideoHeader};
 use pictures::KeyInterval;
-use std::alloc::Global;
 
 #[derive(Drop)]
 pub struct Coder {
@@ -25,28 +24,26 @@ impl Coder {
         Ok(Coder {
             format,
             encoder: Encoder::new(format),
-            packets: Packets::create(rt, &wish.out, header)?,
+            packets: Packets::create(rt, wish.out.as_deref(), header)?,
             interval: wish.key,
             buffer,
         })
     }
 
-    // How wide pictures are.
+    // How many pixels stand in a row.
     pub fn width(&self) -> usize {
         4 * self.format.across()
     }
 
-    // A black picture, to be drawn on.
-    pub fn blank_picture(&self, heap: Global) -> Result<Vec<u8>, Refusal> {
-        Ok(vec![in heap; 0u8; self.format.pixel_count()]?)
+    pub fn pixel_count(&self) -> usize {
+        self.format.pixel_count()
     }
 
     // Whether the next picture falls on the key interval.
     fn is_due(&self) -> bool {
-        match self.interval {
-            Some(interval) => interval.is_key(self.encoder.next_number()),
-            None => false,
-        }
+        let number = self.encoder.next_number();
+        self.interval
+            .is_some_and(|interval| interval.is_key(number))
     }
 
     // Codes a picture, as a key frame if that is asked for, and writes its packet.

@@ -6,11 +6,13 @@ mod coder;
 mod packets;
 mod picture_file;
 mod picture_text;
+mod reading;
 mod wish;
 
 use console::{Input, Refusal, Source};
 use pictures::Form;
 use std::process::ExitCode;
+use wish::Wish;
 
 const HELP: &str = "encode [--step S] [--key N] [--out FILE] [FILE]
 Reads pictures from a file, or from standard input if there is none or it is -, and writes packets as text; with --out
@@ -27,11 +29,10 @@ across, 60 down and 224 in all.
 const FIRST: usize = 9;
 
 fn run(rt: &HostRuntime) -> Result<(), Refusal> {
-    let wish = wish::read(rt)?;
-    if wish.help {
+    let Some(wish) = console::read_wish(rt, "encode", Wish::default())? else {
         rt.println(HELP)?;
         return Ok(());
-    }
+    };
     let input = match &wish.file {
         Some(name) => Input::open(rt, name.as_str())?,
         None => Input::standard(rt),
@@ -39,18 +40,19 @@ fn run(rt: &HostRuntime) -> Result<(), Refusal> {
     let mut source = Source::new(rt.alloc(), input);
     source.fill(FIRST)?;
     match pictures::recognise(source.front()) {
-        Form::Y4m => picture_file::code_y4m(rt, &mut source, &wish),
-        Form::Pgm => picture_file::code_pgm(rt, &mut source, &wish),
+        Form::Y4m => picture_file::code(rt, &mut source, &wish, |bytes| {
+            pictures::open_y4m(bytes)
+        }),
+        Form::Pgm => picture_file::code(rt, &mut source, &wish, |bytes| {
+            pictures::open_pgm(bytes)
+        }),
         Form::Text if wish.step.is_some() => Err(
             "--step is for Y4M and PGM: a text says its step in its first line".into(),
         ),
-        Form::Text => picture_text::code_text(rt, &mut source, &wish),
+        Form::Text => picture_text::code(rt, &mut source, &wish),
     }
 }
 
 fn main(rt: HostRuntime) -> ExitCode {
-    match console::report(&rt, "encode", run(&rt)) {
-        Ok(()) => ExitCode::SUCCESS,
-        Err(_) => ExitCode::FAILURE,
-    }
+    console::exit_code(&rt, "encode", run(&rt))
 }

@@ -14,7 +14,7 @@ impl Packets {
     // Begins with the header line, in a file of that name if there is one.
     pub fn create(
         rt: &HostRuntime,
-        name: &Option<String>,
+        name: Option<&str>,
         header: VideoHeader,
     ) -> Result<Packets, Refusal> {
         let heap = rt.alloc();
@@ -22,7 +22,7 @@ impl Packets {
             Some(name) => {
                 let mut bytes = Vec::new(heap);
                 container::write_header(header, &mut bytes)?;
-                let mut output = Output::create(rt, name.as_str())?;
+                let mut output = Output::create(rt, name)?;
                 output.write_all(bytes.as_slice())?;
                 Ok(Packets::Binary(output))
             }

@@ -1,54 +1,39 @@
 // Pictures of a Y4M stream or of a file of PGM pictures.
 use crate::coder::Coder;
+use crate::reading::read_whole;
 use crate::wish::Wish;
 use console::{Refusal, Source};
 use frame::VideoHeader;
-use pictures::{Layout, PictureError};
+use pictures::{Layout, Opening, PictureError};
+use std::alloc::Global;
+use std::iter;
 
 const USUAL_STEP: u64 = 8;
 
-// No header and no frame of a picture that can be coded is longer.
-const LONGEST: usize = 65536;
-
-// Reads more if there is more, and what is held is not too long already.
-fn read_on(source: &mut Source) -> Result<bool, Refusal> {
-    if source.front().len() >= LONGEST {
-        return Ok(false);
+// The next picture, padded to so many pixels, or none at the end.
+fn next_picture(
+    heap: Global,
+    source: &mut Source,
+    layout: Layout,
+    pixel_count: usize,
+) -> Result<Option<Vec<u8>>, Refusal> {
+    source.fill(1)?;
+    if source.front().is_empty() {
+        return Ok(None);
     }
-    source.read_more()
+    let mut picture = vec![in heap; 0u8; pixel_count]?;
+    let room = picture.as_mut_slice();
+    let next = read_whole(source, move |front| {
+        let at = layout.locate(front)?;
+        let pixels = &front[at.start..at.end];
+        pictures::pad_picture(pixels, layout.size(), room);
+        Ok(at.next)
+    })?;
+    source.take(next);
+    Ok(Some(picture))
 }
 
-// An error with its position in the whole input.
-fn placed(source: &Source, error: PictureError) -> PictureError {
-    error.placed(source.position() as usize)
-}
-
-// Takes the next picture and pads it, or says that there is none.
-fn take_picture(source: &mut Source, layout: Layout, picture: &mut [u8]) -> Result<bool, Refusal> {
-    for _ in 0..u64::MAX {
-        let front = source.front();
-        match layout.locate(front) {
-            Ok(at) => {
-                let pixels = &front[at.start..at.end];
-                pictures::pad_picture(pixels, layout.size(), picture);
-                source.take(at.next);
-                return Ok(true);
-            }
-            Err(error) => {
-                if !read_on(source)? {
-                    return if source.front().is_empty() {
-                        Ok(false)
-                    } else {
-                        Err(placed(source, error).into())
-                    };
-                }
-            }
-        }
-    }
-    Ok(false)
-}
-
-// Codes one picture after another.
+// Codes one picture after another. Nothing says that an input ends, so it counts them.
 fn code_pictures(
     rt: &HostRuntime,
     source: &mut Source,
@@ -60,44 +45,26 @@ fn code_pictures(
         down: pictures::block_count(layout.size().height),
         step: wish.step.unwrap_or(USUAL_STEP),
     };
+    let heap = rt.alloc();
     let mut coder = Coder::new(rt, header, wish)?;
-    let mut picture = coder.blank_picture(rt.alloc())?;
-    for _ in 0..u64::MAX {
-        if !take_picture(source, layout, &mut picture)? {
-            break;
-        }
-        coder.code(rt, picture.as_slice(), false)?;
+    let pixel_count = coder.pixel_count();
+    let pictures = iter::from_fn(|| next_picture(heap, source, layout, pixel_count).transpose());
+    for picture in pictures.take(usize::MAX) {
+        coder.code(rt, picture?.as_slice(), false)?;
     }
     Ok(())
 }
 
-pub fn code_y4m(rt: &HostRuntime, source: &mut Source, wish: &Wish) -> Result<(), Refusal> {
-    for _ in 0..u64::MAX {
-        match pictures::open_y4m(source.front()) {
-            Ok(opening) => {
-                source.take(opening.start);
-                return code_pictures(rt, source, opening.layout, wish);
-            }
-            Err(error) => {
-                if !read_on(source)? {
-                    return Err(error.into());
-                }
-            }
-        }
-    }
-    Ok(())
-}
-
-pub fn code_pgm(rt: &HostRuntime, source: &mut Source, wish: &Wish) -> Result<(), Refusal> {
-    for _ in 0..u64::MAX {
-        match pictures::open_pgm(source.front()) {
-            Ok(opening) => return code_pictures(rt, source, opening.layout, wish),
-            Err(error) => {
-                if !read_on(source)? {
-                    return Err(error.into());
-                }
-            }
-        }
-    }
-    Ok(())
+// Codes the pictures of a file that begins as `read_opening` reads it.
+pub fn code<F: Fn(&[u8]) -> Result<Opening, PictureError>>(
+    rt: &HostRuntime,
+    source: &mut Source,
+    wish: &Wish,
+    read_opening: F,
+) -> Result<(), Refusal>
+    requires { F.IsAlwaysCallable read_opening }
+{
+    let opening = read_whole(source, read_opening)?;
+    source.take(opening.start);
+    code_pictures(rt, source, opening.layout, wish)
 }

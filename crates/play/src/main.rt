@@ -11,7 +11,6 @@ use frame::{Format, FrameHeader};
 use std::alloc::Global;
 use std::process::ExitCode;
 use stream::Screen;
-use text::PacketError;
 use view::View;
 use wish::Wish;
 
@@ -23,17 +22,10 @@ Below each picture stands a strip: white if it is sure, black and white squares 
 --rate says how many frames a second the stream has, or how many in S seconds: 10 unless it is given.";
 
 // Receives the packet that a line says.
-fn receive_line(
-    heap: Global,
-    screen: &mut Screen,
-    line: &str,
-    position: u64,
-) -> Result<(), PacketError> {
-    let packet = text::parse_packet(heap, line).map_err(|error| error.placed(position))?;
+fn receive(heap: Global, screen: &mut Screen, line: &str) -> Result<(), Refusal> {
+    let packet = text::parse_packet(heap, line)?;
     let header = FrameHeader { key: packet.key };
-    screen
-        .receive(packet.number, header, packet.bytes.as_slice())
-        .map_err(|rejection| text::placed(rejection, position))?;
+    screen.receive(packet.number, header, packet.bytes.as_slice())?;
     Ok(())
 }
 
@@ -43,13 +35,11 @@ fn play_text(rt: &HostRuntime, source: &mut Source, wish: &Wish) -> Result<(), R
     let format = Format::try_from(source.header_line(heap)?)?;
     let mut screen = Screen::new(format);
     let mut view = View::new(rt, format, wish)?;
-    for _ in 0..u64::MAX {
-        let Some(line) = source.next_line(heap)? else {
-            break;
-        };
+    for line in source.lines(heap) {
+        let line = line?;
         let text = line.text.as_str();
         if !text::is_blank_line(text) && !text::is_worst_line(text) {
-            receive_line(heap, &mut screen, text, line.position)?;
+            receive(heap, &mut screen, text).map_err(|refusal| line.placed(refusal))?;
             view.show(rt, &screen)?;
         }
     }
@@ -62,10 +52,7 @@ fn play_binary(rt: &HostRuntime, source: Source, wish: &Wish) -> Result<(), Refu
     let format = Format::try_from(header)?;
     let mut screen = Screen::new(format);
     let mut view = View::new(rt, format, wish)?;
-    for _ in 0..u64::MAX {
-        let Some(head) = packets.next()? else {
-            break;
-        };
+    while let Some(head) = packets.next()? {
         let header = FrameHeader { key: head.key };
         screen.receive(head.number, header, packets.frame())?;
         view.show(rt, &screen)?;
@@ -74,12 +61,11 @@ fn play_binary(rt: &HostRuntime, source: Source, wish: &Wish) -> Result<(), Refu
 }
 
 fn run(rt: &HostRuntime) -> Result<(), Refusal> {
-    let heap = rt.alloc();
-    let wish = wish::read(rt)?;
-    if wish.help {
+    let Some(wish) = console::read_wish(rt, "play", Wish::default())? else {
         rt.println(HELP)?;
         return Ok(());
-    }
+    };
+    let heap = rt.alloc();
     match &wish.file {
         Some(name) => {
             let input = Input::open(rt, name.as_str())?;
@@ -90,8 +76,5 @@ fn run(rt: &HostRuntime) -> Result<(), Refusal> {
 }
 
 fn main(rt: HostRuntime) -> ExitCode {
-    match console::report(&rt, "play", run(&rt)) {
-        Ok(()) => ExitCode::SUCCESS,
-        Err(_) => ExitCode::FAILURE,
-    }
+    console::exit_code(&rt, "play", run(&rt))
 }

@@ -5,46 +5,63 @@ use console::Refusal;
 use frame::Format;
 use stream::Screen;
 
+// What is printed after each packet.
+#[derive(Clone, Copy)]
+enum Printed {
+    Nothing,
+    // What the screen shows and whether it is sure of it.
+    Line,
+    // The picture of that format too.
+    Picture(Format),
+}
+
 #[derive(Drop)]
 pub struct View {
-    lines: bool,
-    // How wide the pictures are that are printed, or 0 if none are.
-    width: usize,
+    printed: Printed,
     film: Option<Film>,
 }
 
-// Says what the screen shows and whether it is sure of it, and prints the picture if it is so wide and not 0.
-fn tell(rt: &HostRuntime, screen: &Screen, width: usize) -> Result<(), Refusal> {
+fn print_line(rt: &HostRuntime, screen: &Screen) -> Result<(), Refusal> {
     let heap = rt.alloc();
     let line = match screen.shown() {
         Some(number) if screen.sure() => text::write_sure(heap, number)?,
         shown => text::write_unsure(heap, shown)?,
     };
     rt.println(line)?;
-    if width > 0 {
-        for row in screen.picture().chunks(width) {
-            rt.println(text::write_row(heap, row)?)?;
-        }
+    Ok(())
+}
+
+fn print_picture(rt: &HostRuntime, screen: &Screen, format: Format) -> Result<(), Refusal> {
+    for row in screen.picture().chunks(4 * format.across()) {
+        rt.println(text::write_row(rt.alloc(), row)?)?;
     }
     Ok(())
 }
 
 impl View {
     pub fn new(rt: &HostRuntime, format: Format, wish: &Wish) -> Result<View, Refusal> {
+        let printed = if wish.streams() {
+            Printed::Nothing
+        } else if wish.show {
+            Printed::Picture(format)
+        } else {
+            Printed::Line
+        };
         let film = match &wish.y4m {
             Some(name) => Some(Film::create(rt, name.as_str(), format, wish.rate)?),
             None => None,
         };
-        Ok(View {
-            lines: !wish.streams(),
-            width: if wish.show { 4 * format.across() } else { 0 },
-            film,
-        })
+        Ok(View { printed, film })
     }
 
     pub fn show(&mut self, rt: &HostRuntime, screen: &Screen) -> Result<(), Refusal> {
-        if self.lines {
-            tell(rt, screen, self.width)?;
+        match self.printed {
+            Printed::Nothing => {}
+            Printed::Line => print_line(rt, screen)?,
+            Printed::Picture(format) => {
+                print_line(rt, screen)?;
+                print_picture(rt, screen, format)?;
+            }
         }
         if let Some(film) = &mut self.film {
             film.add(rt.alloc(), screen)?;

@@ -10,19 +10,24 @@ const DELAY: u64 = 4;
 // How many packets in a hundred have which fate.
 #[derive(Clone, Copy)]
 pub struct Weather {
-    pub seed: u64,
-    pub lost: u64,
-    pub doubled: u64,
-    pub late: u64,
+    seed: u64,
+    lost: u64,
+    doubled: u64,
+    late: u64,
 }
 
 impl Weather {
-    pub fn usual() -> Weather {
+    // How many numbers say it.
+    pub const NUMBERS: usize = 4;
+
+    // The weather that these numbers say, and where one is missing the usual one.
+    pub fn new(numbers: &[u64]) -> Weather {
+        let number = |place: usize, usual: u64| numbers.get(place).copied().unwrap_or(usual);
         Weather {
-            seed: 1,
-            lost: 20,
-            doubled: 10,
-            late: 10,
+            seed: number(0, 1),
+            lost: number(1, 20),
+            doubled: number(2, 10),
+            late: number(3, 10),
         }
     }
 }
@@ -73,14 +78,8 @@ impl Air {
     }
 
     fn deliver(&mut self, rt: &HostRuntime, now: u64) -> Result<(), Refusal> {
-        for _ in 0..self.held.len() {
-            match self.held.front() {
-                Some(first) if first.due <= now => {}
-                _ => break,
-            }
-            if let Some(late) = self.held.pop_front() {
-                rt.write_all(late.packet.as_slice())?;
-            }
+        while let Some(late) = self.held.pop_front_if(|late| late.due <= now) {
+            rt.write_all(late.packet.as_slice())?;
         }
         Ok(())
     }

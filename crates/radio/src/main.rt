@@ -26,17 +26,16 @@ fn line_bytes(heap: Global, line: &str) -> Result<Vec<u8>, Refusal> {
 // Passes on packets that are lines of text.
 fn pass_text(rt: &HostRuntime, source: &mut Source, air: &mut Air) -> Result<(), Refusal> {
     let heap = rt.alloc();
-    let Some(first) = source.next_line(heap)? else {
+    let mut lines = source.lines(heap);
+    let Some(first) = lines.next() else {
         return Ok(());
     };
-    rt.println(first.text)?;
-    for _ in 0..u64::MAX {
-        let Some(line) = source.next_line(heap)? else {
-            break;
-        };
-        let line = line.text.as_str();
-        if !text::is_worst_line(line) {
-            air.pass(rt, line_bytes(heap, line)?)?;
+    rt.println(first?.text)?;
+    for line in lines {
+        let line = line?;
+        let text = line.text.as_str();
+        if !text::is_worst_line(text) {
+            air.pass(rt, line_bytes(heap, text)?)?;
         }
     }
     Ok(())
@@ -47,10 +46,7 @@ fn pass_binary(rt: &HostRuntime, source: Source, air: &mut Air) -> Result<(), Re
     let heap = rt.alloc();
     let (header, mut packets) = PacketSource::open(heap, source)?;
     rt.println(text::write_header(heap, header)?)?;
-    for _ in 0..u64::MAX {
-        let Some(head) = packets.next()? else {
-            break;
-        };
+    while let Some(head) = packets.next()? {
         let mut bytes = Vec::new(heap);
         container::write_packet(head.with_bytes(packets.frame()), &mut bytes)?;
         air.pass(rt, bytes)?;
@@ -59,18 +55,14 @@ fn pass_binary(rt: &HostRuntime, source: Source, air: &mut Air) -> Result<(), Re
 }
 
 fn run(rt: &HostRuntime) -> Result<(), Refusal> {
-    let Wish {
-        help,
-        binary,
-        weather,
-    } = wish::read(rt)?;
-    if help {
+    let heap = rt.alloc();
+    let Some(wish) = console::read_wish(rt, "radio", Wish::new(heap))? else {
         rt.println(HELP)?;
         return Ok(());
-    }
-    let mut source = Source::new(rt.alloc(), Input::standard(rt));
-    let mut air = Air::new(rt.alloc(), weather);
-    if binary {
+    };
+    let mut source = Source::new(heap, Input::standard(rt));
+    let mut air = Air::new(heap, wish.weather());
+    if wish.binary {
         pass_binary(rt, source, &mut air)?;
     } else {
         pass_text(rt, &mut source, &mut air)?;
@@ -79,8 +71,5 @@ fn run(rt: &HostRuntime) -> Result<(), Refusal> {
 }
 
 fn main(rt: HostRuntime) -> ExitCode {
-    match console::report(&rt, "radio", run(&rt)) {
-        Ok(()) => ExitCode::SUCCESS,
-        Err(_) => ExitCode::FAILURE,
-    }
+    console::exit_code(&rt, "radio", run(&rt))
 }

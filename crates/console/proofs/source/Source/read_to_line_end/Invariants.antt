@@ -1,9 +1,12 @@
-use Rattle.std.proofs.Common.{◌≤◌, length, vec_items}
+use Rattle.std.proofs.Common.{◌-◌, ◌^◌, ◌≤◌, length, vec_items}
 use Rattle.console.proofs.LineEnds.{NoneBefore}
 use Rattle.console.specs.Source.{Grown}
 use Rattle.console.proofs.source.Source.read_to_line_end.Given as goal
 
--- each turn reads something, and there is no newline so far
-abbrev pub invariant-loop : goal.invariant-loop
-invariant-loop l =
-    Grown l.initial.self l.self × ((l.counter ≤ length (vec_items l.self.held)) × ((l.end ≤ length (vec_items l.self.held)) × NoneBefore (vec_items l.self.held) l.end))
+-- there is no newline so far
+abbrev pub invariant-loop-self : goal.invariant-loop-self
+invariant-loop-self l = Grown l.initial.self l.self × ((l.end ≤ length (vec_items l.self.held)) × NoneBefore (vec_items l.self.held) l.end)
+
+-- each turn reads something
+abbrev pub decreases-loop-self : goal.decreases-loop-self
+decreases-loop-self l = 2 ^ 64 - length (vec_items l.self.held)
