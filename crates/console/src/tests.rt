@@ -12,6 +12,10 @@ impl Wish for Anything {
     fn take(&mut self, _word: String, _arguments: &mut Arguments) -> Result<(), Refusal> {
         Ok(())
     }
+
+    fn check(&self) -> Result<(), Refusal> {
+        Ok(())
+    }
 }
 
 // The text of the next line.

@@ -1,19 +1,21 @@
 // What the words after a program's name ask for.
-ghost use Rattle.std.specs.Prelude.{◌≤◌};
+ghost use Rattle.std.specs.Prelude.{◌≤◌, IfOk, IfSome, OnOk};
 ghost use Rattle.console.specs.Arguments.{words_left};
 
 use crate::arguments::Arguments;
 use crate::refusal::Refusal;
 
 pub trait Wish: Drop {
+    // Holds of what can be asked for together.
+    ghost allowed: { Self → Type 0 } = { λ _. Unit {0} };
+
     // Takes a word, and of the words after it what belongs to it.
     fn take(&mut self, word: String, arguments: &mut Arguments) -> Result<(), Refusal>
         ensures { words_left arguments.new ≤ words_left arguments.old };
 
     // Refuses what cannot be asked for together.
-    fn check(&self) -> Result<(), Refusal> {
-        Ok(())
-    }
+    fn check(&self) -> Result<(), Refusal>
+        ensures { OnOk result (allowed self.now) };
 }
 
 // What the words ask for, or nothing if one of them asks for help.
@@ -21,7 +23,9 @@ pub fn read_wish<W: Wish>(
     rt: &HostRuntime,
     program: &'static str,
     mut wish: W,
-) -> Result<Option<W>, Refusal> {
+) -> Result<Option<W>, Refusal>
+    ensures { IfOk result (λ read. IfSome read W.allowed) }
+{
     let mut arguments = Arguments::new(rt, program)?;
     let mut help = false;
     while let Some(word) = arguments.next() {

@@ -33,10 +33,7 @@ fn run(rt: &HostRuntime) -> Result<(), Refusal> {
         rt.println(HELP)?;
         return Ok(());
     };
-    let input = match &wish.file {
-        Some(name) => Input::open(rt, name.as_str())?,
-        None => Input::standard(rt),
-    };
+    let input = Input::open(rt, wish.file.as_deref().unwrap_or("-"))?;
     let mut source = Source::new(rt.alloc(), input);
     source.fill(FIRST)?;
     match pictures::recognise(source.front()) {

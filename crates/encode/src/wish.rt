@@ -35,4 +35,8 @@ impl console::Wish for Wish {
         }
         Ok(())
     }
+
+    fn check(&self) -> Result<(), Refusal> {
+        Ok(())
+    }
 }

@@ -47,10 +47,11 @@ impl View {
         } else {
             Printed::Line
         };
-        let film = match &wish.y4m {
-            Some(name) => Some(Film::create(rt, name.as_str(), format, wish.rate)?),
-            None => None,
-        };
+        let film = wish
+            .y4m
+            .as_deref()
+            .map(|name| Film::create(rt, name, format, wish.rate))
+            .transpose()?;
         Ok(View { printed, film })
     }
 

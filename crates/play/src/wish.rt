@@ -1,5 +1,5 @@
 // What the words after the program's name ask for.
-ghost use Rattle.std.specs.Prelude.{◌≤◌};
+ghost use Rattle.std.specs.Prelude.{◌≤◌, IsSome};
 ghost use Rattle.console.specs.Arguments.{words_left};
 
 use console::{Arguments, Refusal};
@@ -35,6 +35,9 @@ impl Wish {
 }
 
 impl console::Wish for Wish {
+    // A rate is one of a stream.
+    ghost allowed = { λ wish. IsSome wish.rate → IsSome wish.y4m };
+
     fn take(&mut self, word: String, arguments: &mut Arguments) -> Result<(), Refusal> {
         match word.as_str() {
             "show" => self.show = true,

@@ -43,4 +43,8 @@ impl console::Wish for Wish {
         }
         Ok(())
     }
+
+    fn check(&self) -> Result<(), Refusal> {
+        Ok(())
+    }
 }
