@@ -1,13 +1,13 @@
 -- Reading a packet, in each case.
-use Rattle.std.proofs.Common.{◌≡◌, ℕ, ◌+◌, ◌-◌, ◌/◌, ◌%◌, ◌^◌, ◌<◌, ◌≤◌, eqb, ◌⊎◌, List, ◌++◌, length, drop, IfOk, None, Ok, Err, Result, sym, refl, ap, ◌∙◌, inl, inr, arith}
-use Rattle.container.specs.Container.{contents, first_packet, framed, moved, packet_at, placed, varint_of}
+use Rattle.std.proofs.Common.{◌≡◌, ℕ, ◌+◌, ◌-◌, ◌/◌, ◌%◌, ◌^◌, ◌<◌, ◌≤◌, eqb, ◌⊎◌, List, ◌++◌, length, take, drop, IfOk, None, Some, Ok, Err, Result, sym, refl, ap, ◌∙◌, inl, inr, arith}
+use Rattle.container.specs.Container.{contents, first_packet, framed, moved, packet_at, placed, rejected, varint_of}
 use Rattle.container.specs.declared.fault.Fault.{Fault}
 use Rattle.container.specs.declared.fault.Fault.TheVariants.{Cut, Malformed}
 use Rattle.container.specs.declared.packet.PacketAt.{PacketAt}
 use Rattle.container.specs.declared.varint.Varint.{Varint}
 use Rattle.container.specs.Within.{Whole, WholeAt}
 use Rattle.container.proofs.Varints.{Sized, read_sized, settled}
-use Rattle.std.proofs.lemmas.List.{drop-append-le, drop-drop, length-append, length-drop, take-append-le}
+use Rattle.std.proofs.lemmas.List.{drop-append-le, drop-drop, length-append, length-drop, take-append-le, take_rest}
 use Rattle.std.proofs.lemmas.Bool.{cases_lt, lt-ltb, le-ltb, le-leb, lt-leb}
 
 module _ (bytes : List ℕ) where
@@ -97,6 +97,14 @@ module _ (file : List ℕ) (position : ℕ) where
   pub before_end : position < length file → packet_at file position ≡ placed position (first_packet (drop position file))
   unfolding packet_at
   before_end h = rw (lt-leb (length file) position h)
+
+  pub found_at : (q : PacketAt) → position < length file → Ok q ≡ first_packet (take (length file - position) (drop position file))
+      → Ok (Some (moved position q)) ≡ packet_at file position
+  found_at q h e = ap (placed position) (rw take_rest at e) ∙ sym (before_end h)
+
+  pub fault_at : (f : Fault) → position < length file → Err f ≡ first_packet (take (length file - position) (drop position file))
+      → Err (rejected f position) ≡ packet_at file position
+  fault_at f h e = ap (placed position) (rw take_rest at e) ∙ sym (before_end h)
 
   pub at_whole : IfOk (packet_at file position) (WholeAt position (length file))
   at_whole = elim (cases_lt position (length file)) [

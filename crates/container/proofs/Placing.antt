@@ -1,11 +1,11 @@
 -- A packet's bytes, put at the end of a file or at the start of a buffer.
-use Rattle.std.proofs.Common.{◌≡◌, ℕ, ◌+◌, ◌-◌, ◌^◌, ◌<◌, ◌≤◌, List, ◌++◌, length, take, drop, Ok, Err, Result, sym, refl, ap, ◌∙◌, arith}
+use Rattle.std.proofs.Common.{◌≡◌, ℕ, ◌+◌, ◌^◌, ◌<◌, ◌≤◌, List, ◌++◌, length, take, drop, Ok, Err, Result, sym, refl, ap, ◌∙◌, arith}
 use borrow.Rule.Slice.PartMut.{post_of, put_mid}
 use Rattle.container.specs.Container.{Packet, packet_bytes, tag, varint}
 use Rattle.container.specs.Writing.{WritesInto, write_rejection}
 use Rattle.frame.specs.declared.rejection.Rejection.{Rejection}
 use Rattle.frame.specs.declared.rejection.Rejection.TheVariants.{BufferTooShort}
-use Rattle.std.proofs.lemmas.List.{append_assoc, drop_at, drop-drop, length-append, length-take-le, take_at}
+use Rattle.std.proofs.lemmas.List.{append_assoc, drop_at, drop-drop, length-append, take_at}
 use Rattle.std.proofs.lemmas.Bool.{le-leb, lt-leb}
 
 -- two parts written one after the other
@@ -14,26 +14,21 @@ parts_put : (front back before : List ℕ) (size k z : ℕ) → length front ≡
 parts_put front back before size k z e f g =
     rw (g, f, take_at front (drop size before) size e, drop_at front (drop size before) size e, drop-drop (length back) size before, append_assoc)
 
--- the bytes before the frame's, which stand at the start of an array, and the frame's
-module _ (p : Packet) (head : List ℕ) (size : ℕ) (is_head : take size head ≡ varint (tag p.number p.key) ++ varint (length p.bytes)) where
-  packet_split : take (size - 0) head ++ p.bytes ≡ packet_bytes p
+-- the bytes before the frame's, and the frame's
+module _ (p : Packet) (head : List ℕ) (is_head : head ≡ varint (tag p.number p.key) ++ varint (length p.bytes)) where
+  packet_split : head ++ p.bytes ≡ packet_bytes p
   unfolding packet_bytes
-  packet_split = let z : size - 0 ≡ size = omega arith in rw (z, is_head, append_assoc)
+  packet_split = rw (is_head, append_assoc)
 
-  pub packet_length : size ≤ length head → size + length p.bytes ≡ length (packet_bytes p)
-  packet_length h =
-      let z : size - 0 ≡ size = omega arith in
-      let e = rw z at packet_split in
-      omega (arith, ap length e, length-append (take size head) p.bytes, length-take-le size head h)
+  pub packet_length : length head + length p.bytes ≡ length (packet_bytes p)
+  packet_length = omega (arith, ap length packet_split, length-append head p.bytes)
 
-  pub at_file_end : (before : List ℕ) {one two : List ℕ} → one ≡ before ++ take (size - 0) head → two ≡ one ++ p.bytes → two ≡ before ++ packet_bytes p
-  at_file_end before e f = f ∙ ap (λ bs. bs ++ p.bytes) e ∙ append_assoc before (take (size - 0) head) p.bytes ∙ ap (λ bs. before ++ bs) packet_split
+  pub at_file_end : (before : List ℕ) {one two : List ℕ} → one ≡ before ++ head → two ≡ one ++ p.bytes → two ≡ before ++ packet_bytes p
+  at_file_end before e f = f ∙ ap (λ bs. bs ++ p.bytes) e ∙ append_assoc before head p.bytes ∙ ap (λ bs. before ++ bs) packet_split
 
-  pub at_buffer_start : (before : List ℕ) {front back : List ℕ} (k z : ℕ) → size ≤ length head → front ≡ take (size - 0) head → back ≡ p.bytes
-      → k ≡ length p.bytes → z ≡ size → put_mid size k (front ++ post_of 0 z before) back ≡ packet_bytes p ++ drop (length (packet_bytes p)) before
-  at_buffer_start before k z h e f g i =
-      let n : size - 0 ≡ size = omega arith in
-      rw (e, f, sym (packet_length h), sym packet_split) (parts_put (take (size - 0) head) p.bytes before size k z (rw n (length-take-le size head h)) g i)
+  pub at_buffer_start : (before : List ℕ) {front back : List ℕ} (k z : ℕ) → front ≡ head → back ≡ p.bytes → k ≡ length p.bytes → z ≡ length head
+      → put_mid (length head) k (front ++ post_of 0 z before) back ≡ packet_bytes p ++ drop (length (packet_bytes p)) before
+  at_buffer_start before k z e f g i = rw (e, f, sym packet_length, sym packet_split) (parts_put head p.bytes before (length head) k z refl g i)
 
 -- a file that is cut to its old length is as it was
 pub cut_back : (before front : List ℕ) {one two : List ℕ} (n : ℕ) → one ≡ before ++ front → two ≡ one → length before ≡ n → take n two ≡ before

@@ -47,6 +47,9 @@ pub from_byte : (bytes : List ℕ) (place value size : ℕ) → size < length by
 from_byte bytes place value size h inv e =
     sym e ∙ rw (sym (add-one size)) (sym (at_drop_more (varint_from place value size) bytes size 0 h)) ∙ inv
 
+pub same_fault : (e f : Fault) → ◌≡◌ {A = Result ℕ Fault} (Err e) (Err f) → e ≡ f
+same_fault e f h = cc
+
 same_varint : {v w m n : ℕ} → v ≡ w → m ≡ n → ◌≡◌ {A = Result Varint Fault} (Ok (record { value = v; size = m })) (Ok (record { value = w; size = n }))
 same_varint e f = rw (e, f)
 

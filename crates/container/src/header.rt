@@ -5,6 +5,7 @@ ghost use Rattle.std.specs.Prelude.{◌≡◌, ◌<◌, ◌++◌, length, is_ok,
 
 use frame::{Rejection, VideoHeader};
 use std::alloc::AllocError;
+use std::str;
 
 // Adds a header line to a file. Where that fails, `out` is as it was.
 pub fn write_header(header: VideoHeader, out: &mut Vec<u8>) -> Result<(), AllocError>
@@ -27,11 +28,9 @@ pub fn read_header(file: &[u8]) -> Result<(VideoHeader, usize), Rejection>
     ensures { HeaderRead file.now result }
 {
     let end = newline(file).ok_or(Rejection::BadText(file.len() as u64))?;
-    match std::str::from_utf8(&file[0..end]) {
-        Ok(line) => {
-            let header = text::parse_header(line)?;
-            Ok((header, end + 1))
-        }
-        Err(error) => Err(Rejection::BadText(error.valid_up_to() as u64)),
-    }
+    let line = str::from_utf8(&file[0..end]).map_err(|error| Rejection::BadText(
+        error.valid_up_to() as u64,
+    ))?;
+    let header = text::parse_header(line)?;
+    Ok((header, end + 1))
 }

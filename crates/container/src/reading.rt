@@ -43,12 +43,10 @@ pub fn read_packet(file: &[u8], position: usize) -> Result<Option<PacketAt>, Rej
     if position >= file.len() {
         return Ok(None);
     }
-    match locate(&file[position..]) {
-        Ok(found) => Ok(Some(PacketAt {
-            head: found.head,
-            start: position + found.start,
-            end: position + found.end,
-        })),
-        Err(fault) => Err(fault.rejection(position as u64)),
-    }
+    let found = locate(&file[position..]).map_err(|fault| fault.rejection(position as u64))?;
+    Ok(Some(PacketAt {
+        head: found.head,
+        start: position + found.start,
+        end: position + found.end,
+    }))
 }

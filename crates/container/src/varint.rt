@@ -26,24 +26,18 @@ pub(crate) fn read_varint(bytes: &[u8]) -> Result<Varint, Fault>
     let mut value: u64 = 0;
     let mut place: u64 = 1;
     for (index, byte) in bytes.iter().enumerate() {
-        let Some(total) = with_group(value, *byte, place) else {
-            return Err(Fault::Malformed);
-        };
+        value = with_group(value, *byte, place).ok_or(Fault::Malformed)?;
         if *byte < 128 {
             // A last group of zero says nothing: the form without it is the shortest.
             if *byte == 0 && place > 1 {
                 return Err(Fault::Malformed);
             }
             return Ok(Varint {
-                value: total,
+                value,
                 size: index + 1,
             });
         }
-        let Some(next) = place.checked_mul(128) else {
-            return Err(Fault::Malformed);
-        };
-        value = total;
-        place = next;
+        place = place.checked_mul(128).ok_or(Fault::Malformed)?;
     }
     Err(Fault::Cut)
 }
@@ -54,6 +48,7 @@ pub(crate) fn put_varint(number: u64, bytes: &mut [u8], position: usize) -> usiz
     ensures end { result ≡ position + length (varint number) }
     ensures bytes { take result bytes.new ≡ take position bytes.old ++ varint number }
 {
+    // How many bytes there are shows only at the last one, so no iterator ends this loop.
     let mut rest = number;
     let mut end = position;
     while rest >= 128 {

@@ -7,23 +7,15 @@ use crate::varint::put_varint;
 use frame::{MAX_SEQUENCE_NUMBER, Packet, Rejection};
 use text::PacketError;
 
-// The bytes before a frame's: two numbers of ten bytes at most.
-#[derive(Drop)]
-struct HeadBytes {
-    bytes: [u8; 20],
-    size: usize,
-}
-
-fn head_bytes(number: u64, key: bool, frame_length: usize) -> HeadBytes
+// The bytes before a frame's, in a room for two numbers of ten bytes at most.
+fn write_head<'a>(number: u64, key: bool, frame_length: usize, room: &'a mut [u8; 20]) -> &'a [u8]
     requires { number ≤ 2 ^ 62 }
-    ensures size { result.size ≤ 20 }
-    ensures bytes { take result.size result.bytes ≡ varint (tag number key) ++ varint frame_length }
+    ensures { result.now ≡ varint (tag number key) ++ varint frame_length }
 {
-    let mut bytes = [0; 20];
     let tag = 2 * number + u64::from(key);
-    let middle = put_varint(tag, &mut bytes, 0);
-    let size = put_varint(frame_length as u64, &mut bytes, middle);
-    HeadBytes { bytes, size }
+    let middle = put_varint(tag, room, 0);
+    let size = put_varint(frame_length as u64, room, middle);
+    &room[..size]
 }
 
 // Adds a packet to a file. Where that fails, `out` is as it was.
@@ -35,9 +27,9 @@ pub fn write_packet(packet: Packet<'_>, out: &mut Vec<u8>) -> Result<(), PacketE
     if number > MAX_SEQUENCE_NUMBER {
         return Err(PacketError::Rejected(Rejection::BadText(position as u64)));
     }
-    let head = head_bytes(number, frame.header.key, frame.bytes.len());
-    let size = head.size;
-    out.extend_from_slice(&head.bytes[0..size])?;
+    let mut room = [0; 20];
+    let head = write_head(number, frame.header.key, frame.bytes.len(), &mut room);
+    out.extend_from_slice(head)?;
     if out.extend_from_slice(frame.bytes).is_err() {
         out.truncate(position);
         return Err(PacketError::OutOfMemory);
@@ -54,13 +46,14 @@ pub fn write_packet_into(packet: Packet<'_>, out: &mut [u8]) -> Result<usize, Re
         return Err(Rejection::BadText(0));
     }
     let bytes = frame.bytes;
-    let head = head_bytes(number, frame.header.key, bytes.len());
-    let size = head.size;
+    let mut room = [0; 20];
+    let head = write_head(number, frame.header.key, bytes.len(), &mut room);
+    let size = head.len();
     if out.len() < size || out.len() - size < bytes.len() {
         return Err(Rejection::BufferTooShort(out.len() as u64));
     }
     let end = size + bytes.len();
-    out[0..size].copy_from_slice(&head.bytes[0..size]);
+    out[..size].copy_from_slice(head);
     out[size..end].copy_from_slice(bytes);
     Ok(end)
 }

@@ -19,7 +19,7 @@ pub fn write_row(heap: Global, row: &[u8]) -> Result<String, AllocError>
         return Ok(String::new(heap));
     };
     let mut line = first.to_string(heap)?;
-    push_numbers(heap, &mut line, rest)?;
+    push_numbers(&mut line, rest)?;
     Ok(line)
 }
 
@@ -31,16 +31,16 @@ pub fn write_packet(heap: Global, packet: Packet<'_>) -> Result<String, AllocErr
     if frame.header.key {
         line.push_str(" key")?;
     }
-    push_numbers(heap, &mut line, frame.bytes)?;
+    push_numbers(&mut line, frame.bytes)?;
     Ok(line)
 }
 
 // Adds each number with a space before it.
-fn push_numbers(heap: Global, line: &mut String, numbers: &[u8]) -> Result<(), AllocError>
+fn push_numbers(line: &mut String, numbers: &[u8]) -> Result<(), AllocError>
     ensures { OnOk result (string_bytes line.new ≡ string_bytes line.old ++ spaced (map decimal numbers.now)) }
 {
     for number in numbers {
-        line.push_str(format!(in heap; " {number}")?.as_str())?;
+        write!(line, " {number}")?;
     }
     Ok(())
 }

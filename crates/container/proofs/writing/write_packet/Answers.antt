@@ -14,6 +14,6 @@ returns c =
     let p : Packet = lent_packet c.args.packet in
     let two = rw c.if-is_err.ensures.negation at c.extend_from_slice-2.ensures.items in (
       omega arith,
-      at_file_end p c.head_bytes-head.result.bytes c.head_bytes-head.result.size c.head_bytes-head.ensures.bytes
+      at_file_end p c.write_head-head.result.now c.write_head-head.ensures
           (vec_items c.args.out.now) {one = vec_items c.extend_from_slice.new.self} c.in_ok-extend_from_slice.ensures.items two,
     )
