@@ -82,10 +82,6 @@ bits_left_more count k v s t a b d h left f e end x g =
 pub bits_more_below : (k v s : ℕ) (t : Bool) → v < 2 ^ k → s ≡ bool_byte t → 2 * v + s < 2 ^ (k + 1)
 bits_more_below k v s t h e = rw (add-one, pow-succ') (omega (arith, bit_byte t, bit_most t))
 
--- so that it never overflows
-pub bits_fit : (k v : ℕ) → k ≤ 15 → v < 2 ^ k → v < 32768
-bits_fit k v h l = omega (arith, pow_mono {i = k} {j = 15} h)
-
 pub bits_left_none : (count k v : ℕ) (a b : Reader) → count ≤ k → BitsLeft count k v a b → HasRead (read_bits count 0) a b v
 bits_left_none count k v a b h left = left b v (subst (λ n. HasRead (read_bits n v) b b v) (let e : 0 ≡ count - k = omega arith in e) (bits_none v b))
 
@@ -97,9 +93,6 @@ number_of c k x p a b d f g e = record {
   is = rw (f.is, f.next, g.is, e);
   next = rw (f.is, f.next) g.next;
 }
-
-pub number_small : (c n : ℕ) (a b : Reader) → HasRead (read_number c) a b n → n ≤ largest
-number_small c n a b f = subst (λ x. x ≤ largest) f.is (number_most c (reader_of a))
 
 -- 0 has no sign
 pub signed_zero : (c n : ℕ) (a b : Reader) → HasRead (read_number c) a b n → n ≡ 0 → HasRead (read_signed c) a b (pos n)
@@ -113,9 +106,6 @@ unfolding read_signed
 signed_of c n t a b d f e g =
     let z = ne_eqb n 0 e in
     record { bytes = g.bytes ∙ f.bytes; is = rw (f.is, z, f.next, g.is); next = rw (f.is, z, f.next) g.next }
-
-pub signed_small : (c : ℕ) (z : ℤ) (a b : Reader) → HasRead (read_signed c) a b z → nat_abs z ≤ largest
-signed_small c z a b f = subst (λ x. nat_abs x ≤ largest) f.is (signed_most c (reader_of a))
 
 levels_none : (k : ℕ) (a : Reader) → HasRead (read_levels 0 k) a a []
 unfolding read_levels
