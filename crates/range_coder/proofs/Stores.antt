@@ -1,13 +1,11 @@
 -- Bytes with zeros after them have the same bits.
-use Rattle.std.proofs.Common.{◌≡◌, ℕ, ◌+◌, ◌-◌, ◌/◌, ◌%◌, ◌^◌, ◌<◌, ◌≤◌, Bool, List, ◌++◌, length, get_or, drop, replicate, sym, ap, ◌∙◌, inl, inr, arith}
+use Rattle.std.proofs.Common.{◌≡◌, ℕ, ◌+◌, ◌-◌, ◌/◌, List, ◌++◌, length, get_or, drop, replicate, sym, ◌∙◌, inl, inr}
 use mathlib.Core.Path.{fun_ext}
 use Rattle.std.proofs.Math.Seq.{get_or-append_right}
 use Rattle.std.proofs.lemmas.List.{get_or_past, get_or_append_left, get_or-drop}
 use Rattle.std.proofs.lemmas.Bool.{cases_lt}
-use Rattle.bits.specs.Bits.{bits_of, prefix_value}
+use Rattle.bits.specs.Bits.{bits_of}
 use Rattle.bits.proofs.Positions.{bit_same}
-use Rattle.range_coder.specs.Code.{encoder_in}
-use Rattle.range_coder.specs.Coding.{narrowed}
 use Rattle.range_coder.proofs.Probabilities.{copies}
 
 pub zeros_after : (xs : List ℕ) (k n : ℕ) → bits_of (xs ++ drop k (replicate n 0)) ≡ bits_of xs

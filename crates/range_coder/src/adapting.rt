@@ -7,6 +7,7 @@ ghost use Rattle.range_coder.specs.Decisions.{learned, start_contexts};
 use crate::contexts::Contexts;
 
 // The probability a sixteenth of the way nearer to what was decided.
+#[tactic(auto, unfolding(crate::specs::Coding::adapted))]
 fn adapted(p: u8, decision: bool) -> u8
     ensures { result ≡ adapted p decision }
 {

@@ -1,6 +1,6 @@
 -- What a reader has read, step by step, as the symbol that the steps make. A loop's invariant says what is left: whoever
 -- reads that has read the whole.
-use Rattle.std.proofs.Common.{◌≡◌, ℕ, suc, ◌+◌, ◌-◌, ◌*◌, ◌%◌, ◌^◌, ◌<◌, ◌≤◌, Bool, true, false, cond, List, [], ◌∷◌, ◌++◌, length, take, set, ℤ, pos, neg_ℤ, nat_abs, sym, refl, ap, ◌∙◌, subst, mod-eq_of_lt, add-one, arith, pow_mono}
+use Rattle.std.proofs.Common.{◌≡◌, ℕ, suc, ◌+◌, ◌-◌, ◌*◌, ◌%◌, ◌^◌, ◌<◌, ◌≤◌, Bool, true, false, cond, List, [], ◌∷◌, ◌++◌, length, take, set, ℤ, pos, neg_ℤ, sym, refl, ap, ◌∙◌, subst, mod-eq_of_lt, add-one, arith}
 use native.Mathlib.Nat.{pow-succ'}
 use mir.Val.{bool_byte}
 use Rattle.bits.specs.Bits.{bit}
@@ -9,8 +9,8 @@ use Rattle.range_coder.specs.Decisions.{read_adaptive, read_bypass}
 use Rattle.range_coder.specs.declared.reader.Reader.{Reader}
 use Rattle.std.proofs.lemmas.List.{append_assoc, append-nil, take_all, take_more_set}
 use Rattle.std.proofs.lemmas.Bool.{ne_eqb}
-use Rattle.symbols.proofs.Limits.{bit_most, number_most, signed_most, levels_sayable}
-use Rattle.symbols.specs.Promise.{Sayable, largest}
+use Rattle.symbols.proofs.Limits.{bit_most, levels_sayable}
+use Rattle.symbols.specs.Promise.{Sayable}
 use Rattle.symbols.specs.Reading.{read_prefix, read_bits, read_number, read_signed, read_levels, level_context}
 
 prefix_none : (c : ℕ) (a : Reader) → HasRead (read_prefix 0 c) a a 0

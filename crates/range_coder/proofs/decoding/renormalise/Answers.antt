@@ -17,5 +17,5 @@ loop-range-preserved c = record {
       c.read-bit.ensures.value c.read-bit.ensures.next (omega arith) (omega arith) ∙ c.loop-range.invariant.same;
 }
 
-pub returns : goal.returns
-returns c = record { bytes = c.loop-range.invariant.bytes; is = sym (renormalised_stays 7 _ (omega arith)) ∙ c.loop-range.invariant.same }
+pub returns-clause-is : goal.returns-clause-is
+returns-clause-is c = sym (renormalised_stays 7 _ (omega arith)) ∙ c.loop-range.invariant.same

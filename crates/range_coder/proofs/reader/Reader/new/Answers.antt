@@ -1,6 +1,6 @@
 use Rattle.range_coder.specs.Decisions.{start_reader}
 use Rattle.range_coder.proofs.reader.Reader.new.Goals as goal
 
-pub returns : goal.returns
+pub returns-clause-start : goal.returns-clause-start
 unfolding start_reader
-returns c = record { bytes = c.new.ensures.bytes; start = λ i. record { decoder = c.new.ensures.start i; contexts = c.new-2.ensures i } }
+returns-clause-start c = λ i. record { decoder = c.new.ensures.start i; contexts = c.new-2.ensures i }

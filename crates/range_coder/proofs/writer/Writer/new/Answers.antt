@@ -1,4 +1,4 @@
-use Rattle.std.proofs.Common.{ℕ, refl, arith}
+use Rattle.std.proofs.Common.{ℕ, arith}
 use Rattle.std.proofs.lemmas.List.{length-replicate}
 use Rattle.range_coder.specs.Coding.{start_encoder}
 use Rattle.range_coder.specs.Decisions.{start_writer}
@@ -16,9 +16,6 @@ invariant_of-result c = record {
   clean = λ n _. zeros_clean 1024 n;
 }
 
-pub returns : goal.returns
+pub returns-clause-start : goal.returns-clause-start
 unfolding start_writer start_encoder
-returns c = record {
-  start = λ i. record { encoder = record { low = zeros_prefix 1024 8 i; range = 256; length = 8 }; contexts = c.new.ensures i };
-  bits = refl;
-}
+returns-clause-start c = λ i. record { encoder = record { low = zeros_prefix 1024 8 i; range = 256; length = 8 }; contexts = c.new.ensures i }
