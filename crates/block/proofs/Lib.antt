@@ -1,5 +1,5 @@
 pub mod Apart
-pub mod Filled
+pub mod Made
 pub mod Inverse
 pub mod Near
 pub mod Passes

@@ -1,9 +1,9 @@
--- Moved blocks: when one stays within the picture, where it then is, and its pixels row by row.
-use Rattle.std.proofs.Common.{◌≡◌, ℕ, zero, suc, ◌+◌, ◌*◌, ◌<◌, ◌≤◌, Bool, true, false, cond, not, List, length, get_or, set, replicate, ℤ, pos, negsuc, ◌+ℤ◌, nat_abs, refl, ap, ◌∙◌, ⊎_elim, add-zero, add-mul, arith, rules}
+-- Moved blocks: when one stays within the picture, where it then is, and where its pixels are.
+use Rattle.std.proofs.Common.{◌≡◌, ℕ, ◌+◌, ◌*◌, ◌<◌, Bool, true, false, cond, not, replicate, ℤ, pos, negsuc, ◌+ℤ◌, nat_abs, refl, ap, add-mul, arith}
 use lib.Signed.{lt_z}
-use Rattle.std.proofs.lemmas.List.{get_or-replicate, length-set, places}
+use Rattle.std.proofs.lemmas.List.{get_or-replicate}
 use Rattle.std.proofs.lemmas.Int.{ints}
-use Rattle.std.proofs.lemmas.Bool.{and_right, cases_lt}
+use Rattle.std.proofs.lemmas.Bool.{and_right}
 use Rattle.std.proofs.lemmas.Bool.Decides.{nat_tests}
 use Rattle.block.specs.Picture.{Picture}
 use Rattle.block.specs.Prediction.{moved, predictable, predicted, stays_within}
@@ -54,39 +54,6 @@ module _ (size : PlaneSize) (left top : ℕ) (p : Prediction) (m : MotionVector)
   unfolding predicted
   moved_pixel reference column row x y column-is row_is = rw (is, column-is, row_is)
 
--- PIXELS ROW BY ROW
-
-abbrev pub put_four : List ℕ → (i : ℕ) → (four : List ℕ) → List ℕ
-put_four pixels i four = set (set (set (set pixels i (get_or four 0 0)) (i + 1) (get_or four 1 0)) (i + 2) (get_or four 2 0)) (i + 3) (get_or four 3 0)
-
-put_four_same : (pixels four : List ℕ) (i x : ℕ) → i + 4 ≤ length pixels → x < 4 → get_or (put_four pixels i four) (i + x) 0 ≡ get_or four x 0
-put_four_same pixels four i zero within h = rw add-zero (search (rules, places))
-put_four_same pixels four i (suc zero) within h = search (rules, places)
-put_four_same pixels four i (suc (suc zero)) within h = search (rules, places)
-put_four_same pixels four i (suc (suc (suc zero))) within h = search (rules, places)
-put_four_same pixels four i (suc (suc (suc (suc x)))) within h = absurd (omega arith)
-
-put_four_before : (pixels four : List ℕ) (i j : ℕ) → j < i → get_or (put_four pixels i four) j 0 ≡ get_or pixels j 0
-put_four_before pixels four i j before = search (rules, places)
-
--- the first n rows of a block hold these pixels
-pub record RowsFilled (n : ℕ) (f : ℕ → ℕ → ℕ) (pixels : List ℕ) : Type 0 where
-  pub sixteen : length pixels ≡ 16
-  pub pixel : (x y : ℕ) → x < 4 → y < n → pixel_in pixels x y ≡ f x y
-
-pub row_put :
-    (n : ℕ) (f : ℕ → ℕ → ℕ) (pixels four : List ℕ) → n < 4 → RowsFilled n f pixels → ((x : ℕ) → x < 4 → get_or four x 0 ≡ f x n) →
-    RowsFilled (n + 1) f (put_four pixels (4 * n) four)
-row_put n f pixels four h rows row = record {
-  sixteen = simp length-set rows.sixteen;
-  pixel = λ x y below h'. ⊎_elim
-      (λ (lt : y < n). put_four_before pixels four (4 * n) (4 * y + x) (omega arith) ∙ rows.pixel x y below lt)
-      (λ (le : n ≤ y).
-      let same : y ≡ n = omega arith in
-      rw same (put_four_same pixels four (4 * n) x (omega (arith, rows.sixteen)) below ∙ row x below))
-      (cases_lt y n);
-}
-
--- where a pixel of a block is, from the block's first
-pub index_from_first : (width column row x y : ℕ) → (row * width + column) + y * width + x ≡ (row + y) * width + (column + x)
-index_from_first width column row x y = omega (arith, add-mul row y width)
+-- where a pixel of a block is, from the start of its row
+pub index_from_start : (width column row x y start : ℕ) → start ≡ (row * width + column) + y * width → start + x ≡ (row + y) * width + (column + x)
+index_from_start width column row x y start is = omega (arith, add-mul row y width)

@@ -1,8 +1,8 @@
 -- The parts of a block one after the other: what has been read or written after each.
-use Rattle.std.proofs.Common.{◌≡◌, ℕ, zero, suc, ◌+◌, ◌<◌, Bool, true, false, ◌&&◌, eqb, List, [], ◌∷◌, length, get_or, drop, ℤ, pos, negsuc, sym, refl, ap, ◌∙◌, arith, w32, SFits, to_z, of_z}
-use Rattle.std.proofs.lemmas.List.{drop_more}
-use Rattle.std.proofs.lemmas.Int.{to_z-of_z}
-use Rattle.std.proofs.lemmas.Bool.{eqb-false, eqb-true}
+use Rattle.std.proofs.Common.{◌≡◌, ℕ, zero, suc, Bool, true, false, List, [], ◌∷◌, length, replicate, ℤ, pos, negsuc, int_eq, refl, ap, ◌∙◌, arith}
+use Rattle.std.specs.Bool.{Decides}
+use Rattle.std.specs.Cmp.Lexicographic.{pointwise}
+use Rattle.std.proofs.lemmas.Bool.Decides.{Decides-int_eq, same_from_decides}
 use Rattle.range_coder.proofs.Decisions.{has_written_then, has_written_within}
 use Rattle.range_coder.specs.Code.{HasRead, HasWritten}
 use Rattle.range_coder.specs.Decisions.{adaptive, read_adaptive}
@@ -96,33 +96,20 @@ unfolding block_decisions
 block_written key block a b c f g =
     has_written_then 249 1943 (prediction_decisions key block.prediction) (residual_decisions block.levels) a b c f g
 
--- LEVELS ONE AFTER THE OTHER
+-- NO LEVELS
 
-not_zero : (z : ℤ) → (of_z w32 z ≡ 0 → ⊥) → is_zero z ≡ false
+zero_decides : (z : ℤ) → Decides (is_zero z) (z ≡ pos 0)
 unfolding is_zero
-not_zero (pos zero) other = absurd (other refl)
-not_zero (pos (suc n)) other = refl
-not_zero (negsuc n) other = refl
+zero_decides (pos zero) = (λ _. refl, λ _. refl)
+zero_decides (pos (suc n)) = (λ h. cc h, λ h. cc h)
+zero_decides (negsuc n) = (λ h. cc h, λ h. cc h)
 
--- a level's word is 0 just where it is
-zero_word : (z : ℤ) → SFits w32 z → eqb (of_z w32 z) 0 ≡ is_zero z
-unfolding is_zero
-zero_word z fits = go (eqb (of_z w32 z) 0) refl
-  where
-    go : (b : Bool) → eqb (of_z w32 z) 0 ≡ b → b ≡ is_zero z
-    go true e = let level : z ≡ pos 0 = sym (to_z-of_z w32 z fits) ∙ ap (to_z w32) (eqb-true _ _ e) in rw level
-    go false e = sym (not_zero z (eqb-false _ _ e))
+zero_is : (z : ℤ) → int_eq z (pos 0) ≡ is_zero z
+zero_is z = same_from_decides _ _ (Decides-int_eq z (pos 0)) (zero_decides z)
 
-pub and_true : (b : Bool) → b ≡ (b && true)
-and_true true = refl
-and_true false = refl
-
-pub one_level_more :
-    (so_far : Bool) (zs : List ℤ) (i : ℕ) → i < length zs → SFits w32 (get_or zs i (pos 0)) →
-    ((so_far && eqb (of_z w32 (get_or zs i (pos 0))) 0) && all_zero (drop (i + 1) zs)) ≡ (so_far && all_zero (drop i zs))
+pub equal_to_zeros : (zs : List ℤ) (n : ℕ) → length zs ≡ n → pointwise int_eq zs (replicate n (pos 0)) ≡ all_zero zs
 unfolding all_zero
-one_level_more so_far zs i within fits = rw (drop_more zs i (pos 0) within, zero_word (get_or zs i (pos 0)) fits) (regrouped so_far _ _)
-  where
-    regrouped : (a b c : Bool) → ((a && b) && c) ≡ (a && (b && c))
-    regrouped true b c = refl
-    regrouped false b c = refl
+equal_to_zeros [] zero long = refl
+equal_to_zeros [] (suc n) long = cc
+equal_to_zeros (z ∷ zs) zero long = cc
+equal_to_zeros (z ∷ zs) (suc n) long = rw (zero_is z, equal_to_zeros zs n (omega arith))

@@ -1,8 +1,6 @@
--- A pass transforms each row and writes it as a column; two passes transform a block.
-use Rattle.std.proofs.Common.{◌≡◌, ℕ, zero, suc, ◌+◌, ◌*◌, ◌/◌, ◌%◌, ◌^◌, ◌<◌, ◌≤◌, List, length, get_or, set, ℤ, pos, ◌+ℤ◌, ◌-ℤ◌, nat_abs, sym, ap, ◌∙◌, ⊎_elim, add-zero, arith, w64, to_z, of_z}
-use Rattle.std.proofs.lemmas.List.{get_or-set_same, get_or-set_other, length-set}
+-- A pass transforms each row, which then is a column; two passes transform a block.
+use Rattle.std.proofs.Common.{◌≡◌, ℕ, zero, suc, ◌+◌, ◌*◌, ◌/◌, ◌%◌, ◌^◌, ◌<◌, ◌≤◌, List, [], ◌∷◌, get_or, ℤ, pos, ◌+ℤ◌, ◌-ℤ◌, nat_abs, sym, ap, ◌∙◌, add-zero, arith, lit≤, w64, to_z, of_z}
 use Rattle.std.proofs.lemmas.Int.{ints}
-use Rattle.std.proofs.lemmas.Bool.{cases_lt}
 use Rattle.block.specs.Transform.{inverse_transform, positive, signed, sum4, value_in}
 use Rattle.block.specs.Stages.{transform4, Transformed}
 use Rattle.block.specs.Promise.{Within}
@@ -10,100 +8,70 @@ use Rattle.block.proofs.Inverse.{by_rows, transform4_same}
 use Rattle.block.proofs.Near.{transform4_small}
 
 -- what holds of 0, 1, 2 and 3
-below_four : (P : ℕ → Type 0) → P 0 → P 1 → P 2 → P 3 → (n : ℕ) → n < 4 → P n
+pub below_four : (P : ℕ → Type 0) → P 0 → P 1 → P 2 → P 3 → (n : ℕ) → n < 4 → P n
 below_four P a b c d zero h = a
 below_four P a b c d (suc zero) h = b
 below_four P a b c d (suc (suc zero)) h = c
 below_four P a b c d (suc (suc (suc zero))) h = d
 below_four P a b c d (suc (suc (suc (suc n)))) h = absurd (omega arith)
 
--- four values of a column written
-abbrev column : List ℤ → ℕ → ℤ → ℤ → ℤ → ℤ → List ℤ
-column out x a b c d = set (set (set (set out x a) (4 + x) b) (8 + x) c) (12 + x) d
-
-module _ (out : List ℤ) (x : ℕ) (a b c d : ℤ) (hx : x < 4) (len : length out ≡ 16) where
-  column_top : get_or (column out x a b c d) x (pos 0) ≡ a
-  column_top = grind (arith, get_or-set_same, get_or-set_other, length-set)
-
-  column_same : (P : ℕ → ℤ) → a ≡ P 0 → b ≡ P 1 → c ≡ P 2 → d ≡ P 3 → (y : ℕ) → y < 4 → value_in (column out x a b c d) x y ≡ P y
-  column_same P ea eb ec ed =
-      below_four (λ y. value_in (column out x a b c d) x y ≡ P y)
-      (let e : 4 * 0 + x ≡ x = omega arith in rw e (column_top ∙ ea))
-      (grind (arith, get_or-set_same, get_or-set_other, length-set))
-      (grind (arith, get_or-set_same, get_or-set_other, length-set))
-      (grind (arith, get_or-set_same, get_or-set_other, length-set))
-
-  column_other : (k y : ℕ) → k < x → y < 4 → value_in (column out x a b c d) k y ≡ value_in out k y
-  column_other k y hk =
-      below_four (λ y. value_in (column out x a b c d) k y ≡ value_in out k y)
-      (grind (arith, get_or-set_other)) (grind (arith, get_or-set_other)) (grind (arith, get_or-set_other)) (grind (arith, get_or-set_other)) y
-
--- the four basis functions at 0, 1, 2 and 3, as sums and differences of pairs
-abbrev mix₀ : ℤ → ℤ → ℤ → ℤ → ℤ
-mix₀ a b c d = (a +ℤ b) +ℤ (c +ℤ d)
-
-abbrev mix₁ : ℤ → ℤ → ℤ → ℤ → ℤ
-mix₁ a b c d = (a -ℤ b) +ℤ (c -ℤ d)
-
-abbrev mix₂ : ℤ → ℤ → ℤ → ℤ → ℤ
-mix₂ a b c d = (a +ℤ b) -ℤ (c +ℤ d)
-
-abbrev mix₃ : ℤ → ℤ → ℤ → ℤ → ℤ
-mix₃ a b c d = (a -ℤ b) -ℤ (c -ℤ d)
-
 -- a number by way of a machine word
 abbrev word : ℤ → ℤ
 word z = to_z w64 (of_z w64 z)
 
--- one more row
-module _ (rows out : List ℤ) (x : ℕ) (hx : x < 4) (small : Within (2 ^ 40) rows) where
-  abbrev row : (ℤ → ℤ → ℤ → ℤ → ℤ) → ℤ
-  row mix = mix (get_or rows (4 * x) (pos 0)) (get_or rows (4 * x + 1) (pos 0)) (get_or rows (4 * x + 2) (pos 0)) (get_or rows (4 * x + 3) (pos 0))
+-- sums and differences of machine words, which do not overflow
+module _ (n : ℕ) (a b r : ℤ) (few : n ≤ 2 ^ 60) (small_a : nat_abs a ≤ n) (small_b : nat_abs b ≤ n) where
+  sum_is : r ≡ word a +ℤ word b → (word r ≡ a +ℤ b) × (r ≡ a +ℤ b) × (nat_abs r ≤ 2 * n)
+  sum_is e = (omega (arith, ints), omega (arith, ints), omega (arith, ints))
 
-  at_0 : get_or rows (4 * x + 0) (pos 0) ≡ get_or rows (4 * x) (pos 0)
+  difference_is : r ≡ word a -ℤ word b → (word r ≡ a -ℤ b) × (r ≡ a -ℤ b) × (nat_abs r ≤ 2 * n)
+  difference_is e = (omega (arith, ints), omega (arith, ints), omega (arith, ints))
+
+-- the transform of a row is sums and differences of pairs, and of these again
+module _ (rows : List ℤ) (x : ℕ) (hx : x < 4) (small : Within (2 ^ 40) rows) where
+  abbrev first : ℤ
+  first = get_or rows (4 * x) (pos 0)
+
+  abbrev at : ℕ → ℤ
+  at u = get_or rows (4 * x + u) (pos 0)
+
+  at_0 : at 0 ≡ first
   at_0 = rw add-zero
 
-  is₀ : transform4 (λ u. value_in rows u x) 0 ≡ row mix₀
+  is₀ : transform4 (λ u. value_in rows u x) 0 ≡ (first +ℤ at 1) +ℤ (at 2 +ℤ at 3)
   unfolding transform4 sum4 signed positive
   is₀ = omega (arith, ints, at_0)
 
-  is₁ : transform4 (λ u. value_in rows u x) 1 ≡ row mix₁
+  is₁ : transform4 (λ u. value_in rows u x) 1 ≡ (first -ℤ at 1) +ℤ (at 2 -ℤ at 3)
   unfolding transform4 sum4 signed positive
   is₁ = omega (arith, ints, at_0)
 
-  is₂ : transform4 (λ u. value_in rows u x) 2 ≡ row mix₂
+  is₂ : transform4 (λ u. value_in rows u x) 2 ≡ (first +ℤ at 1) -ℤ (at 2 +ℤ at 3)
   unfolding transform4 sum4 signed positive
   is₂ = omega (arith, ints, at_0)
 
-  is₃ : transform4 (λ u. value_in rows u x) 3 ≡ row mix₃
+  is₃ : transform4 (λ u. value_in rows u x) 3 ≡ (first -ℤ at 1) -ℤ (at 2 -ℤ at 3)
   unfolding transform4 sum4 signed positive
   is₃ = omega (arith, ints, at_0)
 
-  -- what sums and differences of machine words give is the transform, since nothing overflows
-  row_words : (mix : ℤ → ℤ → ℤ → ℤ → ℤ) (r : ℤ) (y : ℕ) → transform4 (λ u. value_in rows u x) y ≡ row mix → r ≡ row (λ a b c d. mix (word a) (word b) (word c) (word d)) → word r ≡ transform4 (λ u. value_in rows u x) y
-  row_words mix r y is e =
-      let w₀ : word (get_or rows (4 * x) (pos 0)) ≡ get_or rows (4 * x) (pos 0) = omega (arith, ints, small (4 * x) (omega arith)) in
-      let w₁ : word (get_or rows (4 * x + 1) (pos 0)) ≡ get_or rows (4 * x + 1) (pos 0) = omega (arith, ints, small (4 * x + 1) (omega arith)) in
-      let w₂ : word (get_or rows (4 * x + 2) (pos 0)) ≡ get_or rows (4 * x + 2) (pos 0) = omega (arith, ints, small (4 * x + 2) (omega arith)) in
-      let w₃ : word (get_or rows (4 * x + 3) (pos 0)) ≡ get_or rows (4 * x + 3) (pos 0) = omega (arith, ints, small (4 * x + 3) (omega arith)) in
-      let whole : r ≡ row mix = e ∙ rw (w₀, w₁, w₂, w₃) in
-      fits r _ (whole ∙ sym is) (transform4_small (2 ^ 40) (λ u. value_in rows u x) y (λ u hu. small (4 * x + u) (omega arith)))
-    where
-      fits : (r z : ℤ) → r ≡ z → nat_abs z ≤ 2 ^ 42 → word r ≡ z
-      fits r z e bound = omega (arith, ints)
-
-  pub row_more : (r₀ r₁ r₂ r₃ : ℤ) →
-      r₀ ≡ row (λ a b c d. mix₀ (word a) (word b) (word c) (word d)) → r₁ ≡ row (λ a b c d. mix₁ (word a) (word b) (word c) (word d)) →
-      r₂ ≡ row (λ a b c d. mix₂ (word a) (word b) (word c) (word d)) → r₃ ≡ row (λ a b c d. mix₃ (word a) (word b) (word c) (word d)) →
-      (length out ≡ 16) × Transformed rows out x →
-      (length (column out x (word r₀) (word r₁) (word r₂) (word r₃)) ≡ 16) × Transformed rows (column out x (word r₀) (word r₁) (word r₂) (word r₃)) (x + 1)
-  row_more r₀ r₁ r₂ r₃ e₀ e₁ e₂ e₃ (len, before) = (
-    simp length-set len,
-    λ k y hk hy. ⊎_elim (λ (lt : k < x). column_other out x _ _ _ _ hx len k y lt hy ∙ before k y lt hy)
-        (λ (ge : x ≤ k). let e : k ≡ x = omega arith in
-        rw e (column_same out x _ _ _ _ hx len (transform4 (λ u. value_in rows u x)) (row_words mix₀ r₀ 0 is₀ e₀) (row_words mix₁ r₁ 1 is₁ e₁) (row_words mix₂ r₂ 2 is₂ e₂) (row_words mix₃ r₃ 3 is₃ e₃) y hy))
-        (cases_lt k x),
-  )
+  pub row_is : (s d t e r₀ r₁ r₂ r₃ : ℤ) →
+      s ≡ word first +ℤ word (at 1) → d ≡ word first -ℤ word (at 1) → t ≡ word (at 2) +ℤ word (at 3) → e ≡ word (at 2) -ℤ word (at 3) →
+      r₀ ≡ word s +ℤ word t → r₂ ≡ word s -ℤ word t → r₁ ≡ word d +ℤ word e → r₃ ≡ word d -ℤ word e →
+      (y : ℕ) → y < 4 → get_or (word r₀ ∷ word r₁ ∷ word r₂ ∷ word r₃ ∷ []) y (pos 0) ≡ transform4 (λ u. value_in rows u x) y
+  row_is s d t e r₀ r₁ r₂ r₃ hs hd ht he h₀ h₂ h₁ h₃ =
+      let small₀ = small (4 * x) (omega arith) in
+      let small₁ = small (4 * x + 1) (omega arith) in
+      let small₂ = small (4 * x + 2) (omega arith) in
+      let small₃ = small (4 * x + 3) (omega arith) in
+      let s_is = sum_is (2 ^ 40) first (at 1) s (lit≤ tt) small₀ small₁ hs in
+      let d_is = difference_is (2 ^ 40) first (at 1) d (lit≤ tt) small₀ small₁ hd in
+      let t_is = sum_is (2 ^ 40) (at 2) (at 3) t (lit≤ tt) small₂ small₃ ht in
+      let e_is = difference_is (2 ^ 40) (at 2) (at 3) e (lit≤ tt) small₂ small₃ he in
+      below_four (λ y. get_or (word r₀ ∷ word r₁ ∷ word r₂ ∷ word r₃ ∷ []) y (pos 0) ≡ transform4 (λ u. value_in rows u x) y)
+      ((sum_is (2 * 2 ^ 40) s t r₀ (lit≤ tt) s_is.2 t_is.2 h₀).0 ∙ rw (s_is.1, t_is.1) (sym is₀))
+      ((sum_is (2 * 2 ^ 40) d e r₁ (lit≤ tt) d_is.2 e_is.2 h₁).0 ∙ rw (d_is.1, e_is.1) (sym is₁))
+      ((difference_is (2 * 2 ^ 40) s t r₂ (lit≤ tt) s_is.2 t_is.2 h₂).0 ∙ rw (s_is.1, t_is.1) (sym is₂))
+      ((difference_is (2 * 2 ^ 40) d e r₃ (lit≤ tt) d_is.2 e_is.2 h₃).0 ∙ rw (d_is.1, e_is.1) (sym is₃))
 
 -- two passes transform a block: rows first, and then columns
 pub two_passes : (rows mid out : List ℤ) → Transformed rows mid 4 → Transformed mid out 4 → (x y : ℕ) → x < 4 → y < 4 → value_in out x y ≡ inverse_transform (value_in rows) x y

@@ -5,6 +5,7 @@ ghost use Rattle.block.specs.Prediction.{moved, predictable, predicted, stays_wi
 ghost use Rattle.block.specs.Transform.{pixel_in};
 
 use crate::block::{MotionVector, Plane, Prediction};
+use std::array;
 
 impl Plane<'_> {
     // The sixteen predicted pixels of the block whose first pixel is at column `left` and row `top`,
@@ -28,15 +29,13 @@ impl Plane<'_> {
     {
         let stride = usize::from(self.size.width);
         let first = usize::from(row) * stride + usize::from(column);
-        let mut pixels = [0; 16];
-        for y in 0..4 {
-            let [a, b, c, d] = four_pixels(self.pixels, first + y * stride);
-            pixels[4 * y] = a;
-            pixels[4 * y + 1] = b;
-            pixels[4 * y + 2] = c;
-            pixels[4 * y + 3] = d;
-        }
-        pixels
+        let rows = [
+            four_pixels(self.pixels, first),
+            four_pixels(self.pixels, first + stride),
+            four_pixels(self.pixels, first + 2 * stride),
+            four_pixels(self.pixels, first + 3 * stride),
+        ];
+        array::from_fn(|i| rows[i / 4][i % 4])
     }
 }
 
@@ -45,6 +44,7 @@ impl Plane<'_> {
 fn moved_within(end: u16, first: u16, by: i32) -> Option<u16>
     ensures { MatchOption result (stays_within end first by ≡ false) (λ n. (stays_within end first by ≡ true) × (n ≡ moved first by)) }
 {
+    // A sum in i64 makes a prediction take a sixth less than `checked_add_signed`, and a motion search makes many.
     let start = i64::from(first) + i64::from(by);
     let over = if by < 0 {
         start < 0
@@ -55,33 +55,13 @@ fn moved_within(end: u16, first: u16, by: i32) -> Option<u16>
 }
 
 // Four pixels in a row.
-fn four_pixels(reference: &[u8], first: usize) -> [u8; 4]
+fn four_pixels(pixels: &[u8], first: usize) -> [u8; 4]
     requires { first < 2 ^ 48 }
-    ensures { (x : ℕ) → x < 4 → slice_index result x ≡ slice_index reference.now (first + x) }
+    ensures { (x : ℕ) → x < 4 → slice_index result x ≡ slice_index pixels.now (first + x) }
 {
-    if first + 4 <= reference.len() {
-        [
-            reference[first],
-            reference[first + 1],
-            reference[first + 2],
-            reference[first + 3],
-        ]
+    if let Some([a, b, c, d]) = pixels.get(first..first + 4) {
+        [*a, *b, *c, *d]
     } else {
-        [
-            pixel_at(reference, first),
-            pixel_at(reference, first + 1),
-            pixel_at(reference, first + 2),
-            pixel_at(reference, first + 3),
-        ]
-    }
-}
-
-fn pixel_at(reference: &[u8], index: usize) -> u8
-    ensures { result ≡ slice_index reference.now index }
-{
-    if index < reference.len() {
-        reference[index]
-    } else {
-        0
+        array::from_fn(|x| pixels.get(first + x).copied().unwrap_or(0))
     }
 }

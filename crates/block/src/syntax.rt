@@ -83,13 +83,8 @@ fn write_residual(writer: &mut Writer, levels: [i32; 16])
     }
 }
 
-// All sixteen are looked at, since a loop without a way out is faster.
 pub(crate) fn is_all_zero(levels: [i32; 16]) -> bool
     ensures { result ≡ all_zero levels }
 {
-    let mut zero = true;
-    for level in levels {
-        zero &= level == 0;
-    }
-    zero
+    levels == [0; 16]
 }

@@ -1,11 +1,13 @@
 // The Walsh–Hadamard transform of a block, forward and back.
+// A step and levels stand side by side and not in one value, since the step is the video's and the levels are the block's.
 ghost use Rattle.std.specs.Prelude.{◌≡◌, ℕ, ◌+◌, ◌*◌, ◌%◌, ◌^◌, ◌<◌, ◌≤◌, pos, ◌+ℤ◌, ◌-ℤ◌, ◌*ℤ◌, slice_index, slice_index_or, unsigned_abs};
-ghost use Rattle.block.specs.Stages.{Nearest, nearest, positive_at, Transformed};
+ghost use Rattle.block.specs.Stages.{Nearest, nearest, positive_at, transform4, Transformed};
 ghost use Rattle.block.specs.Promise.{Close, Within};
 ghost use Rattle.block.specs.Transform.{clipped, floor16, inverse_transform, pixel_in, reconstructed, residual, signed, value_in};
 
 use crate::step::Step;
 use crate::syntax::is_all_zero;
+use std::array;
 
 // The sum and the difference.
 fn butterfly(a: i64, b: i64) -> (i64, i64)
@@ -16,20 +18,17 @@ fn butterfly(a: i64, b: i64) -> (i64, i64)
     (a + b, a - b)
 }
 
-// The sum of four basis functions at each of four places, of which there are `a`, `b`, `c` and `d`.
-fn transform_four(a: i64, b: i64, c: i64, d: i64) -> (i64, i64, i64, i64)
-    requires early { (unsigned_abs a ≤ 2 ^ 40) × (unsigned_abs b ≤ 2 ^ 40) }
-    requires late { (unsigned_abs c ≤ 2 ^ 40) × (unsigned_abs d ≤ 2 ^ 40) }
-    ensures first { result.0 ≡ (a +ℤ b) +ℤ (c +ℤ d) }
-    ensures second { result.1 ≡ (a -ℤ b) +ℤ (c -ℤ d) }
-    ensures third { result.2 ≡ (a +ℤ b) -ℤ (c +ℤ d) }
-    ensures fourth { result.3 ≡ (a -ℤ b) -ℤ (c -ℤ d) }
+// A row transformed: the sum of four basis functions at each of four places.
+fn transformed_row(rows: [i64; 16], row: usize) -> [i64; 4]
+    requires row { row < 4 }
+    requires small { Within (2 ^ 40) rows }
+    ensures { (y : ℕ) → y < 4 → slice_index_or result y (pos 0) ≡ transform4 (λ u. value_in rows u row) y }
 {
-    let (early_sum, early_difference) = butterfly(a, b);
-    let (late_sum, late_difference) = butterfly(c, d);
+    let (early_sum, early_difference) = butterfly(rows[4 * row], rows[4 * row + 1]);
+    let (late_sum, late_difference) = butterfly(rows[4 * row + 2], rows[4 * row + 3]);
     let (first, third) = butterfly(early_sum, late_sum);
     let (second, fourth) = butterfly(early_difference, late_difference);
-    (first, second, third, fourth)
+    [first, second, third, fourth]
 }
 
 // Each row transformed. A row comes out as a column, so that two passes transform a block both ways.
@@ -37,20 +36,13 @@ fn pass(rows: [i64; 16]) -> [i64; 16]
     requires { Within (2 ^ 40) rows }
     ensures { Transformed rows result 4 }
 {
-    let mut out = [0i64; 16];
-    for x in 0..4 {
-        let (first, second, third, fourth) = transform_four(
-            rows[4 * x],
-            rows[4 * x + 1],
-            rows[4 * x + 2],
-            rows[4 * x + 3],
-        );
-        out[x] = first;
-        out[4 + x] = second;
-        out[8 + x] = third;
-        out[12 + x] = fourth;
-    }
-    out
+    let columns = [
+        transformed_row(rows, 0),
+        transformed_row(rows, 1),
+        transformed_row(rows, 2),
+        transformed_row(rows, 3),
+    ];
+    array::from_fn(|i| columns[i % 4][i / 4])
 }
 
 // The sum of sixteen basis functions at each pixel, of which `values` says how much there is.
@@ -63,23 +55,11 @@ fn transform_block(values: [i64; 16]) -> [i64; 16]
     pass(pass(values))
 }
 
-// How much of a basis function a level is.
-fn scaled(step: Step, level: i32) -> i64
-    ensures value { result ≡ pos step.value *ℤ level }
-    ensures small { unsigned_abs result ≤ 2 ^ 37 }
-{
-    i64::from(step.value()) * i64::from(level)
-}
-
 fn all_scaled(step: Step, levels: [i32; 16]) -> [i64; 16]
     ensures value { (i : ℕ) → i < 16 → slice_index_or result i (pos 0) ≡ pos step.value *ℤ slice_index_or levels i (pos 0) }
     ensures small { Within (2 ^ 37) result }
 {
-    let mut out = [0i64; 16];
-    for i in 0..16 {
-        out[i] = scaled(step, levels[i]);
-    }
-    out
+    array::from_fn(|i| step.scaled(levels[i]))
 }
 
 // The sum of what sixteen levels are, at each pixel.
@@ -104,11 +84,7 @@ pub fn residuals(step: Step, levels: [i32; 16]) -> [i64; 16]
     ensures { (x y : ℕ) → x < 4 → y < 4 → slice_index_or result (4 * y + x) (pos 0) ≡ residual step.value levels x y }
 {
     let sums = level_sums(step, levels);
-    let mut out = [0i64; 16];
-    for i in 0..16 {
-        out[i] = rounded_sixteenth(sums[i]);
-    }
-    out
+    array::from_fn(|i| rounded_sixteenth(sums[i]))
 }
 
 // Where basis function 4 v + u is negative, as bits: bit 4 y + x of its entry is the pixel at column x and row y.
@@ -130,7 +106,7 @@ fn level_at(step: Step, level: i32, function: usize, pixel: usize) -> i64
     ensures value { result ≡ signed (positive_at function pixel) (pos step.value *ℤ level) }
     ensures small { unsigned_abs result ≤ 2 ^ 37 }
 {
-    let amount = scaled(step, level);
+    let amount = step.scaled(level);
     if is_positive(function, pixel) {
         amount
     } else {
@@ -144,8 +120,8 @@ pub fn residual_at(step: Step, levels: [i32; 16], x: usize, y: usize) -> i64
 {
     let pixel = 4 * (y % 4) + x % 4;
     let mut sum = 0;
-    for i in 0..16 {
-        sum += level_at(step, levels[i], i, pixel);
+    for (function, level) in levels.iter().enumerate() {
+        sum += level_at(step, *level, function, pixel);
     }
     rounded_sixteenth(sum)
 }
@@ -157,16 +133,20 @@ fn clip(value: i64) -> u8
     value.clamp(0, 255) as u8
 }
 
+// A pixel as it is shown: its prediction, and a sixteenth of what its levels sum up to.
+fn shown(prediction: u8, sum: i64) -> u8
+    requires { unsigned_abs sum ≤ 2 ^ 41 }
+    ensures { result ≡ clipped (pos prediction +ℤ floor16 (sum +ℤ pos 8)) }
+{
+    clip(i64::from(prediction) + rounded_sixteenth(sum))
+}
+
 // A prediction, and what levels add.
 fn add_levels(step: Step, levels: [i32; 16], prediction: [u8; 16]) -> [u8; 16]
     ensures { (x y : ℕ) → x < 4 → y < 4 → pixel_in result x y ≡ reconstructed step.value levels (pixel_in prediction x y) x y }
 {
     let sums = level_sums(step, levels);
-    let mut out = [0u8; 16];
-    for i in 0..16 {
-        out[i] = clip(i64::from(prediction[i]) + rounded_sixteenth(sums[i]));
-    }
-    out
+    array::from_fn(|i| shown(prediction[i], sums[i]))
 }
 
 // A block as it is shown: its prediction, and what levels add. Most blocks of a still picture have none.
@@ -180,23 +160,25 @@ pub fn reconstruct(step: Step, levels: [i32; 16], prediction: [u8; 16]) -> [u8; 
     }
 }
 
+fn difference(source: u8, prediction: u8) -> i64
+    ensures value { result ≡ pos source -ℤ pos prediction }
+    ensures small { unsigned_abs result ≤ 255 }
+{
+    i64::from(source) - i64::from(prediction)
+}
+
 fn differences(source: [u8; 16], prediction: [u8; 16]) -> [i64; 16]
     ensures value { (i : ℕ) → i < 16 → slice_index_or result i (pos 0) ≡ pos (slice_index source i) -ℤ pos (slice_index prediction i) }
     ensures small { Within 255 result }
 {
-    let mut out = [0i64; 16];
-    for i in 0..16 {
-        out[i] = i64::from(source[i]) - i64::from(prediction[i]);
-    }
-    out
+    array::from_fn(|i| difference(source[i], prediction[i]))
 }
 
-// The number of steps that is nearest to a coefficient.
-fn nearest_level(step: Step, coefficient: i64) -> i32
-    requires { unsigned_abs coefficient ≤ 4080 }
-    ensures { result ≡ nearest step.value coefficient }
+fn all_nearest(step: Step, coefficients: [i64; 16]) -> [i32; 16]
+    requires { Within 4080 coefficients }
+    ensures { (i : ℕ) → i < 16 → slice_index_or result i (pos 0) ≡ nearest step.value (slice_index_or coefficients i (pos 0)) }
 {
-    (coefficient + i64::from(step.half())).div_euclid(i64::from(step.value())) as i32
+    array::from_fn(|i| step.nearest(coefficients[i]))
 }
 
 // The levels nearest to the difference, which bring a predicted block within half a step of its source, at every pixel.
@@ -205,10 +187,5 @@ pub fn nearest_levels(step: Step, source: [u8; 16], prediction: [u8; 16]) -> [i3
     ensures small { Within 4080 result }
     ensures close { Close step.value result prediction source }
 {
-    let coefficients = transform_block(differences(source, prediction));
-    let mut out = [0i32; 16];
-    for i in 0..16 {
-        out[i] = nearest_level(step, coefficients[i]);
-    }
-    out
+    all_nearest(step, transform_block(differences(source, prediction)))
 }
