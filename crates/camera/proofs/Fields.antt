@@ -1,5 +1,5 @@
 -- Answers packed are taken out again: the fields do not reach into one another, and the high bit tells a rejected source from all else.
-use Rattle.std.proofs.Common.{◌≡◌, ℕ, ◌+◌, ◌-◌, ◌*◌, ◌/◌, ◌%◌, ◌^◌, ◌<◌, true, false, eqb, leb, sym, refl, ap, ◌∙◌, arith}
+use Rattle.std.proofs.Common.{◌≡◌, ℕ, ◌+◌, ◌-◌, ◌*◌, ◌/◌, ◌%◌, ◌^◌, ◌<◌, true, false, Ok, Err, eqb, leb, sym, refl, ap, ◌∙◌, arith}
 use Rattle.std.proofs.lemmas.Nat.{div-mul-add, mod-mul-add}
 use Rattle.std.proofs.lemmas.Bool.{le-leb, lt-leb}
 use Rattle.frame.specs.Rejection.{code_of}
@@ -7,9 +7,8 @@ use Rattle.frame.specs.declared.rejection.Rejection.{Rejection}
 use Rattle.frame.specs.declared.rejection.Rejection.TheVariants.{BlockCount, StepRange, PictureLength, SourceLength, BufferTooShort, PacketCut, BadText}
 use Rattle.frame.specs.declared.rejection.Extent.TheVariants.{Across, Down, Total}
 use Rattle.frame.specs.declared.rejection.Plane.TheVariants.{Reference, Output}
-use Rattle.camera.specs.Packed.{Fitting, Packs, Unpacks, answer_from, packed, rejection_from, unpacked}
-use Rattle.camera.specs.declared.answer.Answer.{Answer}
-use Rattle.camera.specs.declared.answer.Answer.TheVariants.{Length, Shown, Invalid, Sure, Unsure, Rejected}
+use Rattle.camera.specs.Packed.{Answered, Fitting, Packs, Unpacks, answer_from, packed, rejection_from, unpacked}
+use Rattle.camera.specs.declared.answer.Answer.TheVariants.{Length, Shown, Invalid, Sure, Unsure}
 
 -- three fields side by side are below the high bit, so that each is read as it was put
 fields : (kind code number : ℕ) → kind < 16 → code < 16 → number < 2 ^ 55 →
@@ -43,22 +42,22 @@ other_code (BadText n) h = refl
 -- by the fields of each answer
 pub unpacks : Unpacks
 unfolding packed answer_from rejection_from
-unpacks (Length n) h = fields 0 0 n (omega arith) (omega arith) h
-unpacks Shown h = refl
-unpacks Invalid h = refl
-unpacks Sure h = refl
-unpacks Unsure h = refl
-unpacks (Rejected (BlockCount Across)) h = refl
-unpacks (Rejected (BlockCount Down)) h = refl
-unpacks (Rejected (BlockCount Total)) h = refl
-unpacks (Rejected StepRange) h = refl
-unpacks (Rejected (PictureLength Reference)) h = refl
-unpacks (Rejected (PictureLength Output)) h = refl
-unpacks (Rejected (SourceLength n)) h = source n
-unpacks (Rejected (BufferTooShort n)) h = fields 5 5 n (omega arith) (omega arith) h
-unpacks (Rejected (PacketCut n)) h = fields 5 6 n (omega arith) (omega arith) h
-unpacks (Rejected (BadText n)) h = fields 5 7 n (omega arith) (omega arith) h
+unpacks (Ok (Length n)) h = fields 0 0 n (omega arith) (omega arith) h
+unpacks (Ok Shown) h = refl
+unpacks (Ok Invalid) h = refl
+unpacks (Ok Sure) h = refl
+unpacks (Ok Unsure) h = refl
+unpacks (Err (BlockCount Across)) h = refl
+unpacks (Err (BlockCount Down)) h = refl
+unpacks (Err (BlockCount Total)) h = refl
+unpacks (Err StepRange) h = refl
+unpacks (Err (PictureLength Reference)) h = refl
+unpacks (Err (PictureLength Output)) h = refl
+unpacks (Err (SourceLength n)) h = source n
+unpacks (Err (BufferTooShort n)) h = fields 5 5 n (omega arith) (omega arith) h
+unpacks (Err (PacketCut n)) h = fields 5 6 n (omega arith) (omega arith) h
+unpacks (Err (BadText n)) h = fields 5 7 n (omega arith) (omega arith) h
 
 -- so whatever number is an answer packed is one that it can be taken out of
-pub packs : (a b : Answer) → a ≡ b → Fitting a → (n : ℕ) → n ≡ packed b → Packs a n
+pub packs : (a b : Answered) → a ≡ b → Fitting a → (n : ℕ) → n ≡ packed b → Packs a n
 packs a b e h n is = let whole : n ≡ packed a = is ∙ ap packed (sym e) in record { is = whole; back = rw whole (unpacks a h) }

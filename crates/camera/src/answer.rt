@@ -1,7 +1,13 @@
-use frame::Rejection;
-
 // What a call answers, before it is packed into one number.
-#[derive(Clone, Copy)]
+ghost use Rattle.std.specs.Prelude.{◌≡◌, cond};
+ghost use Rattle.camera.specs.Camera.{code_answer, show_answer};
+ghost use Rattle.camera.specs.declared.answer.Answer.TheVariants.{Sure, Unsure};
+
+use frame::{Rejection, ShowError};
+use stream::Receiver;
+
+// What was done, where the call is not rejected.
+#[derive(Clone, Copy, PartialEq, Eq, Debug)]
 pub enum Answer {
     // A frame was coded in so many bytes, or any frame fits in so many.
     Length(u64),
@@ -13,6 +19,33 @@ pub enum Answer {
     Sure,
     // The packet was received, and the receiver is not sure.
     Unsure,
-    // Nothing was done.
-    Rejected(Rejection),
+}
+
+impl From<Receiver> for Answer {
+    ghost from_gives = { λ receiver answer. answer ≡ cond receiver.sure Sure Unsure };
+
+    fn from(receiver: Receiver) -> Answer {
+        if receiver.sure {
+            Answer::Sure
+        } else {
+            Answer::Unsure
+        }
+    }
+}
+
+pub(crate) fn answer_coded(coded: Result<usize, Rejection>) -> Result<Answer, Rejection>
+    ensures { result ≡ code_answer coded }
+{
+    coded.map(|length| Answer::Length(length as u64))
+}
+
+// An invalid frame is answered, and not rejected.
+pub(crate) fn answer_shown(shown: Result<(), ShowError>) -> Result<Answer, Rejection>
+    ensures { result ≡ show_answer shown }
+{
+    match shown {
+        Ok(()) => Ok(Answer::Shown),
+        Err(ShowError::Invalid) => Ok(Answer::Invalid),
+        Err(ShowError::Rejected(rejection)) => Err(rejection),
+    }
 }

@@ -3,21 +3,21 @@ ghost use Rattle.camera.specs.Camera.{CodeAnswers, ReceiveAnswers, ShowAnswers, 
 ghost use Rattle.camera.specs.Packed.{Packs};
 ghost use Rattle.frame.specs.Rejection.{format_rejection};
 
-use crate::answer::Answer;
+use crate::answer::{Answer, answer_coded, answer_shown};
 use crate::packing::pack;
 use crate::receiver::CReceiver;
 use crate::receiving::receive;
-use frame::{Format, ShowResult, VideoHeader};
+use frame::{Format, Frame, FrameHeader, Packet, VideoHeader};
 use stream::Receiver;
+
+// C gives a video's header as three numbers, and a frame's as a flag.
 
 // How many bytes any frame of a format fits in.
 pub fn zukhtavo_worst_case(across: u64, down: u64, step: u64) -> u64
-    ensures { Packs (worst_case_answer (format_rejection across down step) (format_in across down step)) result }
+    ensures { Packs (worst_case_answer (format_rejection (format_in across down step)) (format_in across down step)) result }
 {
-    match Format::new(across, down, step) {
-        Err(rejection) => pack(Answer::Rejected(rejection)),
-        Ok(format) => pack(Answer::Length(encoder::worst_case_size(format) as u64)),
-    }
+    let format = Format::try_from(VideoHeader { across, down, step });
+    pack(format.map(|format| Answer::Length(encoder::worst_case_size(format) as u64)))
 }
 
 // Codes a source picture as a frame: its bytes go to the buffer, and the picture that they mean to the output.
@@ -33,11 +33,9 @@ pub fn zukhtavo_code(
 ) -> u64
     ensures { CodeAnswers across down step (is_set key) source.now reference.now buffer.old output.old result buffer.new output.new }
 {
-    let header = VideoHeader { across, down, step };
-    match encoder::code(header, key > 0, source, reference, buffer, output) {
-        Ok(length) => pack(Answer::Length(length as u64)),
-        Err(rejection) => pack(Answer::Rejected(rejection)),
-    }
+    let video = VideoHeader { across, down, step };
+    let coded = encoder::code(video, key > 0, source, reference, buffer, output);
+    pack(answer_coded(coded))
 }
 
 // Shows a frame in the output.
@@ -52,11 +50,10 @@ pub fn zukhtavo_show(
 ) -> u64
     ensures { ShowAnswers across down step (is_set key) bytes.now reference.now output.old result output.new }
 {
-    match frame::show(across, down, step, key > 0, bytes, reference, output) {
-        ShowResult::Shown => pack(Answer::Shown),
-        ShowResult::Invalid => pack(Answer::Invalid),
-        ShowResult::Rejected(rejection) => pack(Answer::Rejected(rejection)),
-    }
+    let video = VideoHeader { across, down, step };
+    let header = FrameHeader { key: key > 0 };
+    let shown = frame::show(video, Frame { header, bytes }, reference, output);
+    pack(answer_shown(shown))
 }
 
 // Receives a packet: the picture is shown anew, or stays as it is.
@@ -72,16 +69,17 @@ pub fn zukhtavo_receive(
 ) -> u64
     ensures { ReceiveAnswers across down step receiver.old (packet_in number (is_set key) bytes.now) picture.old result receiver.new picture.new }
 {
-    let before = Receiver {
-        sure: receiver.sure > 0,
-        next: receiver.next,
+    let video = VideoHeader { across, down, step };
+    let header = FrameHeader { key: key > 0 };
+    let packet = Packet {
+        number,
+        frame: Frame { header, bytes },
     };
-    match receive(across, down, step, before, number, key > 0, bytes, picture) {
-        Ok(Receiver { sure, next }) => {
-            receiver.sure = u64::from(sure);
-            receiver.next = next;
-            pack(if sure { Answer::Sure } else { Answer::Unsure })
+    match receive(video, Receiver::from(*receiver), packet, picture) {
+        Ok(after) => {
+            *receiver = CReceiver::from(after);
+            pack(Ok(Answer::from(after)))
         }
-        Err(rejection) => pack(Answer::Rejected(rejection)),
+        Err(rejection) => pack(Err(rejection)),
     }
 }

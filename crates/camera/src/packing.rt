@@ -1,25 +1,15 @@
-// Answers packed into one number.
+// Answers packed into one number, since C has one for all of them.
+ghost use Rattle.std.specs.Prelude.{◌≡◌, Ok, Err};
 ghost use Rattle.camera.specs.Packed.{Fitting, Packs, packed};
-ghost use Rattle.std.specs.Prelude.{◌≡◌};
 
 use crate::answer::Answer;
 use frame::Rejection;
 
-// A rejected source's length has all bits but the high one, since it can be any slice's.
-fn pack_rejection(rejection: Rejection) -> u64
-    requires { Fitting (Answer.Rejected rejection) }
-    ensures { result ≡ packed (Answer.Rejected rejection) }
-{
-    match rejection {
-        Rejection::SourceLength(length) => (1 << 63) + length,
-        _ => 5 + 16 * rejection.code() + 256 * rejection.position(),
-    }
-}
-
-// The kind in the low four bits, the rejection's code in the next four, and a length or a position above.
-pub(crate) fn pack(answer: Answer) -> u64
-    requires { Fitting answer }
-    ensures { Packs answer result }
+// The kind is in the low four bits, and a length is above the four of a rejection's code.
+#[tactic(auto, unfolding(crate::specs::Packed::packed))]
+fn pack_answer(answer: Answer) -> u64
+    requires { Fitting (Ok answer) }
+    ensures { result ≡ packed (Ok answer) }
 {
     match answer {
         Answer::Length(length) => 256 * length,
@@ -27,6 +17,27 @@ pub(crate) fn pack(answer: Answer) -> u64
         Answer::Invalid => 2,
         Answer::Sure => 3,
         Answer::Unsure => 4,
-        Answer::Rejected(rejection) => pack_rejection(rejection),
+    }
+}
+
+// The kind is 5, and the code and the position are above. A rejected source's length has all bits but the high one,
+// since it can be any slice's.
+fn pack_rejection(rejection: Rejection) -> u64
+    requires { Fitting (Err rejection) }
+    ensures { result ≡ packed (Err rejection) }
+{
+    match rejection {
+        Rejection::SourceLength(length) => (1 << 63) + length,
+        _ => 5 + 16 * rejection.code() + 256 * rejection.position(),
+    }
+}
+
+pub(crate) fn pack(answer: Result<Answer, Rejection>) -> u64
+    requires { Fitting answer }
+    ensures { Packs answer result }
+{
+    match answer {
+        Ok(answer) => pack_answer(answer),
+        Err(rejection) => pack_rejection(rejection),
     }
 }

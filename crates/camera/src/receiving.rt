@@ -1,34 +1,21 @@
 // Receiving for C.
-ghost use Rattle.camera.specs.Camera.{format_in, packet_in, packet_rejection, receive_answer};
+ghost use Rattle.camera.specs.Camera.{packet_rejection, receive_answer};
 ghost use Rattle.camera.specs.Packed.{Fitting};
+ghost use Rattle.frame.specs.Show.{header_format, packet_of};
 ghost use Rattle.stream.specs.Receiver.{ReceiveSays};
 
-use frame::{Format, FrameHeader, Rejection};
+use frame::{Format, Packet, Rejection, VideoHeader};
 use stream::Receiver;
 
-// Receives a packet of a size in blocks and a quantiser step.
+// Receives a packet of a video with this header.
 pub(crate) fn receive(
-    across: u64,
-    down: u64,
-    step: u64,
+    header: VideoHeader,
     receiver: Receiver,
-    number: u64,
-    key: bool,
-    bytes: &[u8],
+    packet: Packet<'_>,
     picture: &mut [u8],
 ) -> Result<Receiver, Rejection>
-    ensures says { ReceiveSays (packet_rejection across down step picture.old number) (format_in across down step) receiver (packet_in number key bytes.now) picture.old result picture.new }
+    ensures says { ReceiveSays (packet_rejection (header_format header) picture.old packet.entry.number) (header_format header) receiver (packet_of packet.entry) picture.old result picture.new }
     ensures fits { Fitting (receive_answer result) }
 {
-    match Format::new(across, down, step) {
-        Err(rejection) => Err(rejection),
-        Ok(format) => stream::receive(
-            format,
-            receiver,
-            number,
-            FrameHeader { key },
-            bytes,
-            picture,
-        ),
-    }
+    stream::receive(Format::try_from(header)?, receiver, packet, picture)
 }

@@ -1,4 +1,5 @@
 //! The functions of `camera` under their names for C. `rt lib` here makes the static library that C links.
+//! They stand apart, with their contracts once more, since a crate is either a library or a static library.
 #![tactic(auto)]
 
 ghost use Rattle.camera.specs.Camera.{CodeAnswers, ReceiveAnswers, ShowAnswers, format_in, is_set, packet_in, worst_case_answer};
@@ -10,7 +11,7 @@ use camera::CReceiver;
 // How many bytes any frame of a format fits in.
 #[unsafe(no_mangle)]
 pub extern "C" fn zukhtavo_worst_case(across: u64, down: u64, step: u64) -> u64
-    ensures { Packs (worst_case_answer (format_rejection across down step) (format_in across down step)) result }
+    ensures { Packs (worst_case_answer (format_rejection (format_in across down step)) (format_in across down step)) result }
 {
     camera::zukhtavo_worst_case(across, down, step)
 }

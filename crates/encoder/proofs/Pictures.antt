@@ -12,6 +12,5 @@ first_none None b e = refl
 first_none (Some x) b e = absurd (let z : ◌≡◌ {A = ℕ} 0 1 = cc in let f : ⊥ = omega arith in f)
 
 pub pictures_fit : (pixels : ℕ) (source reference output : List ℕ) → pictures_rejection pixels source reference output ≡ None → length output ≡ pixels
-unfolding pictures_rejection
 pictures_fit pixels source reference output e =
     (planes_fit pixels reference output (first_none (planes_rejection pixels reference output) (unless (eqb (length source) pixels) (SourceLength (length source))) e)).1

@@ -72,7 +72,7 @@ module _ (e : Encoder) (source : List ℕ) (asked key : Bool) (buffer buffer₁ 
 
   -- these are as long as a picture, so that only the source can be rejected
   rejection : pictures_rejection (16 * block_count f) source (take lent e.pixels) (take lent scratch) ≡ push_rejection e source
-  unfolding pictures_rejection planes_rejection push_rejection
+  unfolding push_rejection
   rejection =
       rw (
         eq-eqb (length (take lent e.pixels)) (16 * block_count f) (length-take-le lent e.pixels room ∙ whole),

@@ -33,13 +33,12 @@ pub record Coded (f : Format) (key : Bool) (source reference bytes output : List
   pub short : length bytes ≤ worst_case f
 
 -- what pictures can be rejected for, in the order of the checks
-unfoldable pub pictures_rejection : (pixels : ℕ) → (source reference output : List ℕ) → Option Rejection
+abbrev pub pictures_rejection : (pixels : ℕ) → (source reference output : List ℕ) → Option Rejection
 pictures_rejection pixels source reference output =
     or_else (planes_rejection pixels reference output) (unless (length source == pixels) (SourceLength (length source)))
 
-unfoldable pub code_rejection : (across down step : ℕ) → (source reference output : List ℕ) → Option Rejection
-code_rejection across down step source reference output =
-    or_else (format_rejection across down step) (pictures_rejection (16 * (across * down)) source reference output)
+abbrev pub code_rejection : Format → (source reference output : List ℕ) → Option Rejection
+code_rejection f source reference output = or_else (format_rejection f) (pictures_rejection (16 * block_count f) source reference output)
 
 -- a frame that the source is coded as does not fit in so many bytes
 pub record TooShort (f : Format) (key : Bool) (source reference : List ℕ) (room : ℕ) : Type 0 where

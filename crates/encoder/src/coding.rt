@@ -1,9 +1,10 @@
 // Frames coded: bytes that mean a picture close to the source.
 ghost use Rattle.std.specs.Prelude.{◌≡◌, ◌*◌, length, None};
+ghost use Rattle.std.specs.Result.{result_err};
 ghost use Rattle.encoder.specs.Code.{CodeSays, InputCoded, code_rejection, input_rejection, worst_case};
 ghost use Rattle.encoder.specs.Progress.{FrameEncoded};
 ghost use Rattle.frame.specs.Frame.{block_count};
-ghost use Rattle.frame.specs.Show.{ChecksSay, format_of, header_format};
+ghost use Rattle.frame.specs.Show.{format_of, header_format};
 
 use crate::input::FrameInput;
 use frame::{Format, FrameHeader, Rejection, VideoHeader};
@@ -19,7 +20,7 @@ pub fn worst_case_size(format: Format) -> usize
 impl FrameInput<'_> {
     // Whether the pictures have the length that the format says.
     fn check_pictures(&self, output: &[u8]) -> Result<(), Rejection>
-        ensures { ChecksSay (input_rejection self.now output.now) result }
+        ensures { result_err result ≡ input_rejection self.now output.now }
     {
         self.format.check_planes(self.reference, output)?;
         if self.source.len() == self.format.pixel_count() {
@@ -64,7 +65,7 @@ pub fn code(
     buffer: &mut [u8],
     output: &mut [u8],
 ) -> Result<usize, Rejection>
-    ensures { CodeSays (code_rejection header.across header.down header.step source.now reference.now output.old) (header_format header) key source.now reference.now buffer.old output.old result buffer.new output.new }
+    ensures { CodeSays (code_rejection (header_format header) source.now reference.now output.old) (header_format header) key source.now reference.now buffer.old output.old result buffer.new output.new }
 {
     let format = Format::try_from(header)?;
     let input = FrameInput {

@@ -1,5 +1,5 @@
 -- A key frame's blocks are flat, so its picture needs no reference, and none of them reaches over an edge.
-use Rattle.std.proofs.Common.{◌≡◌, ℕ, ◌*◌, ◌/◌, ◌%◌, Bool, true, false, List, None, refl, ap, subst, inl, arith}
+use Rattle.std.proofs.Common.{◌≡◌, ℕ, ◌*◌, ◌/◌, ◌%◌, Bool, true, List, None, Ok, Err, Result, refl, ap, subst, inl, arith}
 use mathlib.Core.Path.{fun_ext}
 use Rattle.range_coder.specs.Decisions.{ReaderState, start_reader}
 use Rattle.block.specs.Picture.{Picture, picture_in}
@@ -12,7 +12,7 @@ use Rattle.block.specs.declared.block.Prediction.TheVariants.{Flat}
 use Rattle.frame.specs.Frame.{Format, Frame, Holds, block_at, block_count, block_left, block_of_pixel, block_predictable, block_top, frame_block, picture_of, plane_size, shows, valid}
 use Rattle.frame.specs.Promise.{KeyAlone, KeyValid}
 use Rattle.frame.specs.Show.{DecodeSays, ShowSays}
-use Rattle.frame.specs.declared.show_result.ShowResult.TheVariants.{Shown}
+use Rattle.frame.specs.declared.show_error.ShowError.{ShowError}
 use Rattle.frame.proofs.Blocks.{every_from}
 
 abbrev IsFlat : Prediction → Type 0
@@ -45,9 +45,9 @@ key_valid f frame e = every_from (block_count f) (block_predictable f (frame_blo
     (key_flat frame.header.key (start_reader frame.bits) n e))
 
 -- so it is shown whatever it is decoded beside
-pub key_shown : (f : Format) (frame : Frame) (beside reference output output₁ : List ℕ) (ok : Bool) → frame.header.key ≡ true →
-    DecodeSays f frame beside ok output₁ → ShowSays None f frame reference output Shown output₁
-key_shown f frame beside reference output output₁ true e h =
-    inl (refl, h.0, subst (λ picture. Holds f picture output₁) (key_alone f frame (picture_in (4 * f.across) beside) (picture_in (4 * f.across) reference) e) h.1)
-key_shown f frame beside reference output output₁ false e h =
+pub key_shown : (f : Format) (frame : Frame) (beside reference output output₁ : List ℕ) (r : Result (Unit {0}) ShowError) → frame.header.key ≡ true →
+    DecodeSays f frame beside r output₁ → ShowSays None f frame reference output r output₁
+key_shown f frame beside reference output output₁ (Ok u) e h =
+    inl (refl, (h.0, subst (λ picture. Holds f picture output₁) (key_alone f frame (picture_in (4 * f.across) beside) (picture_in (4 * f.across) reference) e) h.1))
+key_shown f frame beside reference output output₁ (Err x) e h =
     absurd (let v = key_valid f frame e in let z : ◌≡◌ {A = ℕ} 0 1 = cc in let y : ⊥ = omega arith in y)

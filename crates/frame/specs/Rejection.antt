@@ -1,5 +1,6 @@
 -- What is rejected, in the order of the checks, with its code and its position. Assumes nothing: these are definitions.
-use Rattle.std.specs.Prelude.{ℕ, ◌*◌, Bool, true, false, ◌&&◌, List, length, Some, None, Option, ◌==◌, nat_le}
+use Rattle.std.specs.Prelude.{ℕ, ◌*◌, ◌^◌, Bool, true, false, ◌&&◌, List, length, Some, None, Option, ◌==◌, nat_le}
+use Rattle.frame.specs.Frame.{Format, block_count}
 use Rattle.frame.specs.declared.rejection.Rejection.{Rejection}
 use Rattle.frame.specs.declared.rejection.Rejection.TheVariants.{BlockCount, StepRange, PictureLength, SourceLength, BufferTooShort, PacketCut, BadText}
 use Rattle.frame.specs.declared.rejection.Extent.{Extent}
@@ -48,23 +49,24 @@ abbrev pub few : ℕ → Bool
 few n = nat_le 1 n && nat_le n 60
 
 -- what a format can be rejected for
-unfoldable pub format_rejection : (across down step : ℕ) → Option Rejection
-format_rejection across down step =
-    or_else (unless (few across) (BlockCount Across))
-    (or_else (unless (few down) (BlockCount Down))
-    (or_else (unless (nat_le (across * down) 224) (BlockCount Total))
-    (unless (nat_le 1 step && nat_le step 64) StepRange)))
+abbrev pub format_rejection : Format → Option Rejection
+format_rejection f =
+    or_else (unless (few f.across) (BlockCount Across))
+    (or_else (unless (few f.down) (BlockCount Down))
+    (or_else (unless (nat_le (block_count f) 224) (BlockCount Total))
+    (unless (nat_le 1 f.step && nat_le f.step 64) StepRange)))
 
--- what a reference picture and a place for a picture can be rejected for
-unfoldable pub planes_rejection : (pixels : ℕ) → (reference output : List ℕ) → Option Rejection
-planes_rejection pixels reference output =
-    or_else (unless (length reference == pixels) (PictureLength Reference))
-    (unless (length output == pixels) (PictureLength Output))
+-- what a picture can be rejected for
+abbrev pub plane_rejection : (pixels : ℕ) → Plane → (picture : List ℕ) → Option Rejection
+plane_rejection pixels plane picture = unless (length picture == pixels) (PictureLength plane)
 
--- and what a picture can be that is both
-unfoldable pub picture_rejection : (pixels : ℕ) → (picture : List ℕ) → Option Rejection
-picture_rejection pixels picture = unless (length picture == pixels) (PictureLength Reference)
+-- and what a reference picture and a place for a picture
+abbrev pub planes_rejection : (pixels : ℕ) → (reference output : List ℕ) → Option Rejection
+planes_rejection pixels reference output = or_else (plane_rejection pixels Reference reference) (plane_rejection pixels Output output)
 
-unfoldable pub show_rejection : (across down step : ℕ) → (reference output : List ℕ) → Option Rejection
-show_rejection across down step reference output =
-    or_else (format_rejection across down step) (planes_rejection (16 * (across * down)) reference output)
+abbrev pub show_rejection : Format → (reference output : List ℕ) → Option Rejection
+show_rejection f reference output = or_else (format_rejection f) (planes_rejection (16 * block_count f) reference output)
+
+-- a sequence number is at most 2^62
+abbrev pub number_rejection : ℕ → Option Rejection
+number_rejection number = unless (nat_le number (2 ^ 62)) (BadText 0)

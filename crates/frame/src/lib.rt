@@ -11,9 +11,9 @@ mod packet;
 mod promises;
 mod rejection;
 mod show_error;
-mod show_result;
 mod showing;
 
+pub use checks::check_number;
 pub use drawing::put_block;
 pub use format::Format;
 pub use header::{FrameHeader, VideoHeader};
@@ -21,5 +21,4 @@ pub use packet::{Frame, MAX_SEQUENCE_NUMBER, Packet};
 pub use promises::{key_alone, said_in_bits, within_edges, worked_examples, zeros_ignored};
 pub use rejection::{Extent, Plane, Rejection};
 pub use show_error::ShowError;
-pub use show_result::ShowResult;
 pub use showing::{redraw, show, show_frame};

@@ -7,7 +7,7 @@ mod view;
 mod wish;
 
 use console::{Input, PacketSource, Refusal, Source};
-use frame::{Format, FrameHeader};
+use frame::{Format, Frame, FrameHeader, Packet};
 use std::alloc::Global;
 use std::process::ExitCode;
 use stream::Screen;
@@ -24,8 +24,12 @@ Below each picture stands a strip: white if it is sure, black and white squares 
 // Receives the packet that a line says.
 fn receive(heap: Global, screen: &mut Screen, line: &str) -> Result<(), Refusal> {
     let packet = text::parse_packet(heap, line)?;
-    let header = FrameHeader { key: packet.key };
-    screen.receive(packet.number, header, packet.bytes.as_slice())?;
+    let frame = Frame {
+        header: FrameHeader { key: packet.key },
+        bytes: packet.bytes.as_slice(),
+    };
+    let number = packet.number;
+    screen.receive(Packet { number, frame })?;
     Ok(())
 }
 
@@ -53,8 +57,12 @@ fn play_binary(rt: &HostRuntime, source: Source, wish: &Wish) -> Result<(), Refu
     let mut screen = Screen::new(format);
     let mut view = View::new(rt, format, wish)?;
     while let Some(head) = packets.next()? {
-        let header = FrameHeader { key: head.key };
-        screen.receive(head.number, header, packets.frame())?;
+        let frame = Frame {
+            header: FrameHeader { key: head.key },
+            bytes: packets.frame(),
+        };
+        let number = head.number;
+        screen.receive(Packet { number, frame })?;
         view.show(rt, &screen)?;
     }
     Ok(())

@@ -4,7 +4,7 @@ use crate::failure::Failure;
 use crate::group::Group;
 use crate::random::Random;
 use block::{Block, MotionVector, Prediction, Step};
-use frame::ShowResult;
+use frame::{Frame, FrameHeader, ShowError, VideoHeader};
 use range_coder::Writer;
 use std::array;
 
@@ -77,11 +77,20 @@ pub fn check_bytes_read(group: &mut Group) -> Result<(), Failure> {
 // A frame whose block would be taken from over an edge is invalid, and changes nothing.
 pub fn check_invalid(group: &mut Group) -> Result<(), Failure> {
     let mut picture = [7; 16];
-    let shown = frame::show(1, 1, 8, false, &[197, 128], &[0; 16], &mut picture);
+    let header = VideoHeader {
+        across: 1,
+        down: 1,
+        step: 8,
+    };
+    let frame = Frame {
+        header: FrameHeader { key: false },
+        bytes: &[197, 128],
+    };
+    let shown = frame::show(header, frame, &[0; 16], &mut picture);
     group.equal(
         "1 right and 2 up in one block",
-        (matches!(shown, ShowResult::Invalid), picture),
-        (true, [7; 16]),
+        (shown, picture),
+        (Err(ShowError::Invalid), [7; 16]),
     );
     Ok(())
 }

@@ -4,7 +4,7 @@ use crate::group::Group;
 use crate::pictures::{change, draw, is_near, shift};
 use crate::random::Random;
 use encoder::FrameInput;
-use frame::{Format, FrameHeader, Rejection, ShowResult};
+use frame::{Format, Frame, FrameHeader, Rejection};
 use std::alloc::{AllocError, Global};
 
 // The worst case of the largest format.
@@ -48,15 +48,11 @@ fn code_and_show(heap: Global, input: FrameInput<'_>) -> Result<usize, Failure> 
     let mut shown = vec![in heap; 0; pixels]?;
     let length = encoder::code_frame(input, &mut bytes, &mut coded)?;
     bytes.truncate(length);
-    let ShowResult::Shown = frame::show_frame(
-        input.format,
-        input.header,
-        &bytes,
-        input.reference,
-        &mut shown,
-    ) else {
-        return Err(Failure::NotShown);
+    let frame = Frame {
+        header: input.header,
+        bytes: &bytes,
     };
+    frame::show_frame(input.format, frame, input.reference, &mut shown)?;
     if shown != coded {
         return Err(Failure::OtherPicture);
     }

@@ -3,7 +3,7 @@ use crate::failure::Failure;
 use crate::group::Group;
 use crate::random::Random;
 use encoder::Encoder;
-use frame::{Format, FrameHeader, Rejection, ShowResult, VideoHeader};
+use frame::{Format, Frame, FrameHeader, Packet, Rejection, ShowError, VideoHeader};
 use std::alloc::Global;
 use stream::{Receiver, Screen};
 
@@ -175,14 +175,20 @@ fn code(heap: Global, call: Call) -> Result<Outcome, Failure> {
     })
 }
 
+fn key_frame(bytes: &[u8]) -> Frame<'_> {
+    Frame {
+        header: FrameHeader { key: true },
+        bytes,
+    }
+}
+
 fn show(heap: Global, call: Call) -> Result<Outcome, Failure> {
-    let VideoHeader { across, down, step } = call.header;
     let reference = vec![in heap; 1; call.reference]?;
     let mut output = vec![in heap; 2; call.output]?;
-    let answer = match frame::show(across, down, step, true, &[128], &reference, &mut output) {
-        ShowResult::Shown => Ok(0),
-        ShowResult::Invalid => return Err(Failure::NotShown),
-        ShowResult::Rejected(rejection) => Err(rejection.into()),
+    let answer = match frame::show(call.header, key_frame(&[128]), &reference, &mut output) {
+        Ok(()) => Ok(0),
+        Err(ShowError::Invalid) => return Err(Failure::NotShown),
+        Err(ShowError::Rejected(rejection)) => Err(rejection.into()),
     };
     let changed = !is_filled(&output, 2);
     Ok(Outcome { answer, changed })
@@ -238,16 +244,12 @@ static PACKETS: [(&str, usize, u64, Result<u64, Refused>); 6] = [
 
 // The answer is the number expected next.
 fn receive(heap: Global, format: Format, pixels: usize, number: u64) -> Result<Outcome, Failure> {
-    let header = FrameHeader { key: true };
-    let mut picture = vec![in heap; 2; pixels]?;
-    let res = stream::receive(
-        format,
-        Receiver::new(),
+    let packet = Packet {
         number,
-        header,
-        &[128],
-        &mut picture,
-    );
+        frame: key_frame(&[128]),
+    };
+    let mut picture = vec![in heap; 2; pixels]?;
+    let res = stream::receive(format, Receiver::new(), packet, &mut picture);
     Ok(Outcome {
         answer: res.map(|receiver| receiver.next).map_err(Refused::from),
         changed: !is_filled(&picture, 2),
@@ -257,9 +259,14 @@ fn receive(heap: Global, format: Format, pixels: usize, number: u64) -> Result<O
 // A screen stays sure of its picture when it rejects a packet.
 fn receive_on_screen(format: Format) -> Result<Outcome, Failure> {
     let mut screen = Screen::new(format);
-    let header = FrameHeader { key: true };
-    screen.receive(0, header, &[128])?;
-    let res = screen.receive(ABOVE, header, &[255]);
+    screen.receive(Packet {
+        number: 0,
+        frame: key_frame(&[128]),
+    })?;
+    let res = screen.receive(Packet {
+        number: ABOVE,
+        frame: key_frame(&[255]),
+    });
     let unchanged = screen.sure() && screen.shown() == Some(0) && is_filled(screen.picture(), 128);
     Ok(Outcome {
         answer: res.map(|()| 0).map_err(Refused::from),

@@ -4,7 +4,7 @@ use crate::group::{Group, run};
 use crate::pictures::{change, is_near, shift};
 use crate::random::Random;
 use encoder::Encoder;
-use frame::{Format, FrameHeader, VideoHeader};
+use frame::{Format, Frame, FrameHeader, Packet, VideoHeader};
 use std::alloc::Global;
 use std::io;
 use stream::Screen;
@@ -93,7 +93,13 @@ impl Video {
         screen: &mut Screen,
         frame: &Recorded,
     ) -> Result<(), Failure> {
-        screen.receive(frame.number, frame.header, &frame.bytes)?;
+        screen.receive(Packet {
+            number: frame.number,
+            frame: Frame {
+                header: frame.header,
+                bytes: &frame.bytes,
+            },
+        })?;
         if screen.sure() {
             group.passes(frame.number, self.check_shown(screen));
         }

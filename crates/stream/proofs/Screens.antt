@@ -5,9 +5,9 @@ use Rattle.std.proofs.lemmas.List.{take-append-drop}
 use Rattle.std.proofs.lemmas.Bool.{eq-eqb}
 use Rattle.block.specs.Picture.{black}
 use Rattle.frame.specs.Frame.{Format, Packet, block_count}
-use Rattle.frame.specs.Rejection.{picture_rejection}
+use Rattle.frame.specs.Rejection.{number_rejection}
 use Rattle.frame.specs.declared.rejection.Rejection.{Rejection}
-use Rattle.stream.specs.Receiver.{ReceiveSays, ReceiverState, Stands, after_packets, marked, number_rejection, receive_rejection, start_receiver}
+use Rattle.stream.specs.Receiver.{ReceiveSays, ReceiverState, Stands, after_packets, marked, receive_rejection, start_receiver}
 use Rattle.stream.specs.Screen.{FollowsSource, Received, ScreenSays, ShowsVideo, number_shown, picture_shown, screen_format, screen_pixels}
 use Rattle.frame.specs.Video.{Video, picture_after}
 use Rattle.stream.specs.declared.receiver.Receiver.{Receiver}
@@ -39,7 +39,6 @@ starts f r n unsure first room = record {
 -- the part of the pixels that is lent is as long as a picture, so that only the number can be rejected
 lent_rejection : (count lent : ℕ) (pixels : List ℕ) (number : ℕ) → lent ≡ count → lent ≤ length pixels
     → receive_rejection count (take lent pixels) number ≡ number_rejection number
-unfolding receive_rejection picture_rejection
 lent_rejection count lent pixels number whole room = rw (eq-eqb (length (take lent pixels)) count (length-take-le lent pixels room ∙ whole))
 
 -- the marks and the picture that they stand for are the receiver

@@ -1,10 +1,10 @@
 -- What a receiver makes of packets. Assumes nothing: these are definitions.
-use Rattle.std.specs.Prelude.{◌≡◌, ℕ, suc, ◌^◌, Bool, true, false, cond, ◌&&◌, ◌||◌, List, [], ◌∷◌, Some, None, Ok, Err, Option, Result, ◌==◌, nat_le, nat_lt}
+use Rattle.std.specs.Prelude.{◌≡◌, ℕ, suc, Bool, true, false, cond, ◌&&◌, ◌||◌, List, [], ◌∷◌, Some, None, Ok, Err, Option, Result, ◌==◌, nat_lt}
 use Rattle.block.specs.Picture.{Picture, black}
-use Rattle.frame.specs.Frame.{Format, Frame, Holds, Packet, shows, valid}
-use Rattle.frame.specs.Rejection.{or_else, picture_rejection, unless}
+use Rattle.frame.specs.Frame.{Format, Holds, Packet, shows, valid}
+use Rattle.frame.specs.Rejection.{number_rejection, or_else, plane_rejection}
 use Rattle.frame.specs.declared.rejection.Rejection.{Rejection}
-use Rattle.frame.specs.declared.rejection.Rejection.TheVariants.{BadText}
+use Rattle.frame.specs.declared.rejection.Plane.TheVariants.{Reference}
 use Rattle.stream.specs.declared.receiver.Receiver.{Receiver}
 
 -- what a receiver shows, whether it is sure of it, and the sequence number that it expects next
@@ -46,12 +46,9 @@ pub record Stands (f : Format) (r : Receiver) (pixels : List ℕ) (s : ReceiverS
   pub next : r.next ≡ s.next
   pub picture : Holds f s.picture pixels
 
--- a sequence number is at most 2^62
-abbrev pub number_rejection : ℕ → Option Rejection
-number_rejection number = unless (nat_le number (2 ^ 62)) (BadText 0)
-
-unfoldable pub receive_rejection : (pixels : ℕ) → (picture : List ℕ) → (number : ℕ) → Option Rejection
-receive_rejection pixels picture number = or_else (picture_rejection pixels picture) (number_rejection number)
+-- what a packet can be rejected for
+abbrev pub receive_rejection : (pixels : ℕ) → (picture : List ℕ) → (number : ℕ) → Option Rejection
+receive_rejection pixels picture number = or_else (plane_rejection pixels Reference picture) (number_rejection number)
 
 -- whatever picture the pixels were of, they are then that of the receiver which has received the packet; where it is rejected nothing changes
 abbrev pub ReceiveSays : Option Rejection → Format → Receiver → Packet → (pixels : List ℕ) → Result Receiver Rejection → (pixels₁ : List ℕ) → Type 0

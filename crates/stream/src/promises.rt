@@ -2,27 +2,21 @@
 ghost use Rattle.stream.specs.Promise.{AlwaysSome, GoesOn, LateIgnored, LensToEye, NextMoves, Recovers, ShownIsTrue, SureIsTrue, SureOfSome};
 ghost use Rattle.stream.specs.Runs.{LensToEyeOverRuns};
 
-pub fn sure_is_true() -> u8
+pub fn sure_is_true()
     ensures sure { SureIsTrue }
     ensures number { SureOfSome }
     ensures shown { ShownIsTrue }
     ensures some { AlwaysSome }
-{
-    0
-}
+{}
 
-pub fn receiver_steps() -> u8
+pub fn receiver_steps()
     ensures recovers { Recovers }
     ensures goes_on { GoesOn }
     ensures late { LateIgnored }
     ensures next { NextMoves }
-{
-    0
-}
+{}
 
-pub fn lens_to_eye() -> u8
+pub fn lens_to_eye()
     ensures definitions { LensToEye }
     ensures runs { LensToEyeOverRuns }
-{
-    0
-}
+{}

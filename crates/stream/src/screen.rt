@@ -1,20 +1,20 @@
 // A receiver with a picture of its own.
 ghost use Rattle.std.specs.Prelude.{◌≡◌, ℕ, suc, true, List, []};
-ghost use Rattle.bits.specs.Bits.{bits_of};
-ghost use Rattle.frame.specs.Frame.{Packet};
-ghost use Rattle.stream.specs.Receiver.{number_rejection};
+ghost use Rattle.frame.specs.Frame.{Packet as Sent};
+ghost use Rattle.frame.specs.Rejection.{number_rejection};
+ghost use Rattle.frame.specs.Show.{packet_of};
 ghost use Rattle.stream.specs.Screen.{FollowsSource, Received, ScreenSays, ShowsVideo, number_shown, picture_shown, screen_format, screen_pixels};
 ghost use Rattle.frame.specs.Video.{picture_after};
 
 use crate::receiver::Receiver;
 use crate::receiving::receive;
-use frame::{Format, FrameHeader, Rejection};
+use frame::{Format, Packet, Rejection};
 
 #[derive(Drop)]
 pub struct Screen {
     format: Format,
     receiver: Receiver,
-    // The first of them are the picture: there is room for one of any format.
+    // The first of them are the picture: there is room for one of any format, since a camera has no heap.
     pixels: [u8; 3584],
 }
 
@@ -32,21 +32,14 @@ impl Screen {
     }
 
     // Receives a packet.
-    pub fn receive(
-        &mut self,
-        number: u64,
-        header: FrameHeader,
-        bytes: &[u8],
-    ) -> Result<(), Rejection>
-        ensures { ScreenSays (number_rejection number) self.old (record { number = number; frame = record { header = header; bits = bits_of bytes.now } }) result self.new }
+    pub fn receive(&mut self, packet: Packet<'_>) -> Result<(), Rejection>
+        ensures { ScreenSays (number_rejection packet.entry.number) self.old (packet_of packet.entry) result self.new }
     {
         let pixels = self.format.pixel_count();
         self.receiver = receive(
             self.format,
             self.receiver,
-            number,
-            header,
-            bytes,
+            packet,
             &mut self.pixels[..pixels],
         )?;
         Ok(())
@@ -57,7 +50,7 @@ impl Screen {
         ensures mark { result ≡ self.now.receiver.sure }
         ensures video { result ≡ true → ShowsVideo self.now (λ video. picture_after (screen_format self.now) video self.now.receiver.next) }
         ensures source { result ≡ true → FollowsSource self.now }
-        ensures some { result ≡ true → (ps : List Packet) → Received self.now ps → (n : ℕ) × (self.now.receiver.next ≡ suc n) }
+        ensures some { result ≡ true → (ps : List Sent) → Received self.now ps → (n : ℕ) × (self.now.receiver.next ≡ suc n) }
     {
         self.receiver.sure
     }

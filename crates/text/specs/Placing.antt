@@ -1,7 +1,6 @@
 -- The format that a header line says, and positions in a whole text. Assumes nothing: these are definitions.
 use Rattle.std.specs.Prelude.{◌≡◌, ℕ, ◌+◌, ◌-◌, ◌^◌, min, Ok, Err, Result}
-use Rattle.frame.specs.Rejection.{format_rejection}
-use Rattle.frame.specs.Show.{FormatSays}
+use Rattle.frame.specs.Show.{FormatSays, header_format}
 use Rattle.frame.specs.declared.format.Format.{Format}
 use Rattle.frame.specs.declared.rejection.Rejection.{Rejection}
 use Rattle.frame.specs.declared.rejection.Rejection.TheVariants.{BadText, BlockCount, BufferTooShort, PacketCut, PictureLength, SourceLength, StepRange}
@@ -12,8 +11,7 @@ use Rattle.text.specs.declared.error.PacketError.TheVariants.{Rejected, OutOfMem
 -- a line that says no header is rejected as such, and else the format if it is none
 abbrev pub FormatLine : Result VideoHeader Rejection → Result Format Rejection → Type 0
 FormatLine (Err e) r = r ≡ Err e
-FormatLine (Ok h) r =
-    FormatSays (format_rejection h.across h.down h.step) (record { across = h.across; down = h.down; step = h.step }) r
+FormatLine (Ok h) r = FormatSays (header_format h) r
 
 -- a position in a line that begins at an offset, as one in the whole text
 abbrev pub placed_at : (offset : ℕ) → Rejection → Rejection

@@ -1,13 +1,9 @@
-use Rattle.std.proofs.Common.{Ok, Err, arith}
+use Rattle.std.proofs.Common.{arith}
+use Rattle.camera.specs.Camera.{format_in}
 use Rattle.camera.proofs.Ranges.{code_fits}
 use Rattle.camera.proofs.exports.zukhtavo_code.Goals as goal
 
 pub pack-requires : goal.pack-requires
-pack-requires c =
-    code_fits c.args.across c.args.down c.args.step _ c.args.source.now c.args.reference.now c.args.buffer.now c.args.output.now
-    (Ok c.in-Ok.length) c.code.new.buffer c.code.new.output (omega arith) c.in-Ok.ensures
-
-pub pack-requires-in-Err : goal.pack-requires-in-Err
-pack-requires-in-Err c =
-    code_fits c.args.across c.args.down c.args.step _ c.args.source.now c.args.reference.now c.args.buffer.now c.args.output.now
-    (Err c.in-Err.rejection) c.code.new.buffer c.code.new.output (omega arith) c.in-Err.ensures
+pack-requires c = rw c.answer_coded.ensures
+    (code_fits (format_in c.args.across c.args.down c.args.step) _ c.args.source.now c.args.reference.now c.args.buffer.now c.args.output.now
+    c.code-coded.result c.code-coded.new.buffer c.code-coded.new.output (omega arith) c.code-coded.ensures)

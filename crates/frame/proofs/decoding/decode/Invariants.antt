@@ -9,6 +9,6 @@ use Rattle.frame.proofs.decoding.decode.Given as goal
 
 abbrev pub invariant-loop-row : goal.invariant-loop-row
 invariant-loop-row l =
-    (reader_of l.reader ≡ past l.header.key (start_reader (bits_of l.bytes)) (l.row * l.format.across))
-    × Predictable (format_of l.format) l.header.key (start_reader (bits_of l.bytes)) 0 (l.row * l.format.across)
-    × Drawn (4 * l.format.across) (4 * l.row) (picture_read (format_of l.format) l.header.key (start_reader (bits_of l.bytes)) l.reference) l.output
+    (reader_of l.reader ≡ past l.fn.frame.header.key (start_reader (bits_of l.fn.frame.bytes.now)) (l.row * l.fn.format.across))
+    × Predictable (format_of l.fn.format) l.fn.frame.header.key (start_reader (bits_of l.fn.frame.bytes.now)) 0 (l.row * l.fn.format.across)
+    × Drawn (4 * l.fn.format.across) (4 * l.row) (picture_read (format_of l.fn.format) l.fn.frame.header.key (start_reader (bits_of l.fn.frame.bytes.now)) l.fn.reference) l.output
