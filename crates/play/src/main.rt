@@ -24,12 +24,7 @@ Below each picture stands a strip: white if it is sure, black and white squares 
 // Receives the packet that a line says.
 fn receive(heap: Global, screen: &mut Screen, line: &str) -> Result<(), Refusal> {
     let packet = text::parse_packet(heap, line)?;
-    let frame = Frame {
-        header: FrameHeader { key: packet.key },
-        bytes: packet.bytes.as_slice(),
-    };
-    let number = packet.number;
-    screen.receive(Packet { number, frame })?;
+    screen.receive(packet.lend())?;
     Ok(())
 }
 
