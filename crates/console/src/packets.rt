@@ -51,6 +51,7 @@ impl PacketSource {
     }
 
     // Takes the next packet, or none at the end. A packet that is cut is refused.
+    // It gives the head and no packet that borrows the source, since `whole` says what the source is afterwards.
     pub fn next(&mut self) -> Result<Option<PacketHead>, Refusal>
         ensures fewer { OnOk result (self.new.left < self.old.left) }
         ensures whole { result ≡ Ok None → ending (state_of self.new.reader) ≡ Ok tt }
