@@ -3,6 +3,7 @@ use crate::failure::Failure;
 use crate::group::Group;
 use crate::random::Random;
 use block::{Block, MotionVector, Prediction};
+use frame::FrameHeader;
 use range_coder::{Reader, Writer};
 use std::array;
 
@@ -38,18 +39,31 @@ fn random_block(random: &mut Random, key: bool) -> Block {
     Block { prediction, levels }
 }
 
-// Writes blocks one after the other. They share contexts, which adapt.
-pub fn write_blocks(writer: &mut Writer, key: bool, blocks: &[Block]) {
-    for block in blocks {
-        block::write_block(writer, key, *block);
-    }
+// The blocks of a frame, in the order in which they are written.
+#[derive(Clone, Copy)]
+pub struct FrameBlocks<'a> {
+    pub header: FrameHeader,
+    pub blocks: &'a [Block],
 }
 
-// Reads blocks, which are to be these.
-pub fn check_read(group: &mut Group, case: &str, key: bool, bytes: &[u8], blocks: &[Block]) {
-    let mut reader = Reader::new(bytes);
-    for block in blocks {
-        group.equal(case, block::read_block(&mut reader, key), *block);
+impl FrameBlocks<'_> {
+    // Writes the blocks one after the other. They share contexts, which adapt.
+    pub fn write(self, writer: &mut Writer) {
+        for block in self.blocks {
+            block::write_block(writer, self.header.key, *block);
+        }
+    }
+
+    // Reads blocks, which are to be these.
+    pub fn check_read(self, group: &mut Group, case: &str, bytes: &[u8]) {
+        let mut reader = Reader::new(bytes);
+        for block in self.blocks {
+            group.equal(
+                case,
+                block::read_block(&mut reader, self.header.key),
+                *block,
+            );
+        }
     }
 }
 
@@ -61,10 +75,14 @@ pub fn check_random_blocks(group: &mut Group) -> Result<(), Failure> {
         for block in &mut blocks {
             *block = random_block(&mut random, key);
         }
+        let frame = FrameBlocks {
+            header: FrameHeader { key },
+            blocks: &blocks,
+        };
         let mut writer = Writer::new();
-        write_blocks(&mut writer, key, &blocks);
+        frame.write(&mut writer);
         let case = if key { "key frame" } else { "other frame" };
-        check_read(group, case, key, writer.finish(), &blocks);
+        frame.check_read(group, case, writer.finish());
     }
     Ok(())
 }

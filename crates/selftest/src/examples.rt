@@ -1,5 +1,5 @@
 // Examples that were worked out by hand: the bytes of frames, residuals, and the levels nearest to a source.
-use crate::blocks::{check_read, random_levels, write_blocks};
+use crate::blocks::{FrameBlocks, random_levels};
 use crate::failure::Failure;
 use crate::group::Group;
 use crate::random::Random;
@@ -60,8 +60,12 @@ static BYTE_EXAMPLES: [(&str, bool, &[Block], &[u8]); 9] = [
 
 pub fn check_bytes(group: &mut Group) -> Result<(), Failure> {
     for (name, key, blocks, bytes) in &BYTE_EXAMPLES {
+        let frame = FrameBlocks {
+            header: FrameHeader { key: *key },
+            blocks: *blocks,
+        };
         let mut writer = Writer::new();
-        write_blocks(&mut writer, *key, *blocks);
+        frame.write(&mut writer);
         group.equal(*name, writer.finish(), *bytes);
     }
     Ok(())
@@ -69,14 +73,17 @@ pub fn check_bytes(group: &mut Group) -> Result<(), Failure> {
 
 pub fn check_bytes_read(group: &mut Group) -> Result<(), Failure> {
     for (name, key, blocks, bytes) in &BYTE_EXAMPLES {
-        check_read(group, *name, *key, *bytes, *blocks);
+        let frame = FrameBlocks {
+            header: FrameHeader { key: *key },
+            blocks: *blocks,
+        };
+        frame.check_read(group, *name, *bytes);
     }
     Ok(())
 }
 
 // A frame whose block would be taken from over an edge is invalid, and changes nothing.
 pub fn check_invalid(group: &mut Group) -> Result<(), Failure> {
-    let mut picture = [7; 16];
     let header = VideoHeader {
         across: 1,
         down: 1,
@@ -86,6 +93,7 @@ pub fn check_invalid(group: &mut Group) -> Result<(), Failure> {
         header: FrameHeader { key: false },
         bytes: &[197, 128],
     };
+    let mut picture = [7; 16];
     let shown = frame::show(header, frame, &[0; 16], &mut picture);
     group.equal(
         "1 right and 2 up in one block",
@@ -108,7 +116,7 @@ static RESIDUALS: [(usize, i32, u8, [u8; 4], [u8; 4]); 3] = [
 ];
 
 pub fn check_residuals(group: &mut Group) -> Result<(), Failure> {
-    let step = Step::new(8).ok_or(Failure::NoStep)?;
+    let step = Step::new(8).unwrap();
     for (index, level, value, even, odd) in &RESIDUALS {
         let mut levels = [0; 16];
         levels[*index % 16] = *level;
@@ -131,7 +139,7 @@ pub fn check_residual_sums(group: &mut Group) -> Result<(), Failure> {
     let mut random = Random::new(2);
     for case in 0..200u8 {
         let levels = random_levels(&mut random);
-        let step = Step::new(random.below(64) + 1).ok_or(Failure::NoStep)?;
+        let step = Step::new(random.below(64) + 1).unwrap();
         let found = block::residuals(step, levels);
         group.equal(case, found, plain_residuals(step, levels));
     }

@@ -1,14 +1,18 @@
-// Why a case fails, or a group cannot go on.
+// Why a call or a case fails, or a group cannot go on.
 use frame::{Rejection, ShowError};
 use std::alloc::{AllocError, AllocFailed};
 
 #[derive(Clone, Copy, PartialEq, Eq, Debug)]
 pub enum Failure {
     OutOfMemory,
-    // A call that should not be.
-    Rejected(Rejection),
-    // A frame that should be shown.
-    NotShown,
+    // A call that is rejected with this code and position.
+    Rejected(u64, u64),
+    // A call that is rejected and yet changes what was lent to it.
+    Changed,
+    // A call that is not rejected and yet changes nothing.
+    Unchanged,
+    // A frame that is invalid.
+    Invalid,
     // A quantiser step that there is not.
     NoStep,
     // A picture that is not the one that the encoder says its bytes mean.
@@ -37,15 +41,15 @@ impl<T: Drop> From<AllocFailed<T>> for Failure {
 
 impl From<Rejection> for Failure {
     fn from(rejection: Rejection) -> Failure {
-        Failure::Rejected(rejection)
+        Failure::Rejected(rejection.code(), rejection.position())
     }
 }
 
 impl From<ShowError> for Failure {
     fn from(error: ShowError) -> Failure {
         match error {
-            ShowError::Invalid => Failure::NotShown,
-            ShowError::Rejected(rejection) => Failure::Rejected(rejection),
+            ShowError::Invalid => Failure::Invalid,
+            ShowError::Rejected(rejection) => rejection.into(),
         }
     }
 }

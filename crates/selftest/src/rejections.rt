@@ -3,38 +3,24 @@ use crate::failure::Failure;
 use crate::group::Group;
 use crate::random::Random;
 use encoder::Encoder;
-use frame::{Format, Frame, FrameHeader, Packet, Rejection, ShowError, VideoHeader};
+use frame::{Format, Frame, FrameHeader, Packet, VideoHeader};
 use std::alloc::Global;
 use stream::{Receiver, Screen};
 
-// A rejection's code and position.
-#[derive(Clone, Copy, PartialEq, Eq, Debug)]
-struct Refused(u64, u64);
-
-impl From<Rejection> for Refused {
-    fn from(rejection: Rejection) -> Refused {
-        Refused(rejection.code(), rejection.position())
+// What a call answers. It is to change what was lent to it, unless it is rejected.
+fn answered<E: Drop>(res: Result<u64, E>, unchanged: bool) -> Result<u64, Failure>
+where
+    Failure: From<E>,
+{
+    match res {
+        Ok(_) if unchanged => Err(Failure::Unchanged),
+        Err(_) if !unchanged => Err(Failure::Changed),
+        _ => Ok(res?),
     }
 }
 
-// What comes of a call, and whether it changed what was lent to it.
-#[derive(Clone, Copy, PartialEq, Eq, Debug)]
-struct Outcome {
-    answer: Result<u64, Refused>,
-    changed: bool,
-}
-
-// What is rejected is to change nothing, and what is not is to change something.
-fn check_outcome(group: &mut Group, name: &str, found: Outcome, wanted: Result<u64, Refused>) {
-    let changed = wanted.is_ok();
-    group.equal(
-        name,
-        found,
-        Outcome {
-            answer: wanted,
-            changed,
-        },
-    );
+fn is_filled(bytes: &[u8], value: u8) -> bool {
+    bytes.iter().all(|byte| *byte == value)
 }
 
 // A call's header, and the lengths of what is lent to it.
@@ -70,20 +56,9 @@ const SHORT: Call = Call {
 };
 
 impl Call {
-    fn blocks(self, across: u64, down: u64) -> Call {
-        let step = self.header.step;
+    fn header(self, across: u64, down: u64, step: u64) -> Call {
         Call {
             header: VideoHeader { across, down, step },
-            ..self
-        }
-    }
-
-    fn step(self, step: u64) -> Call {
-        Call {
-            header: VideoHeader {
-                step,
-                ..self.header
-            },
             ..self
         }
     }
@@ -107,55 +82,35 @@ impl Call {
 
 // Calls by name, and the code and position that they are rejected with.
 // Where several things are out of range, the first of the list counts.
-fn calls() -> [(&'static str, Call, Refused); 22] {
+fn calls() -> [(&'static str, Call, u64, u64); 22] {
     [
-        ("across 0", GOOD.blocks(0, 3), Refused(1, 0)),
-        ("across 61", GOOD.blocks(61, 3), Refused(1, 0)),
-        ("across 2^63", GOOD.blocks(1 << 63, 2), Refused(1, 0)),
-        ("down 0", GOOD.blocks(2, 0), Refused(1, 1)),
-        ("down 61", GOOD.blocks(2, 61), Refused(1, 1)),
-        ("20 by 12 blocks", GOOD.blocks(20, 12), Refused(1, 2)),
-        ("step 0", GOOD.step(0), Refused(2, 0)),
-        ("step 65", GOOD.step(65), Refused(2, 0)),
-        ("step 264", GOOD.step(264), Refused(2, 0)),
-        ("reference one short", GOOD.reference(95), Refused(3, 0)),
-        ("output one long", GOOD.output(97), Refused(3, 1)),
-        ("source one short", GOOD.source(95), Refused(4, 95)),
-        ("source one long", GOOD.source(97), Refused(4, 97)),
-        ("no source", GOOD.source(0), Refused(4, 0)),
-        ("no buffer", GOOD.buffer(0), Refused(5, 0)),
-        ("everything", SHORT.blocks(0, 0).step(0), Refused(1, 0)),
-        (
-            "down and what follows",
-            SHORT.blocks(20, 0).step(0),
-            Refused(1, 1),
-        ),
-        (
-            "total and what follows",
-            SHORT.blocks(20, 12).step(0),
-            Refused(1, 2),
-        ),
-        ("the step and what follows", SHORT.step(0), Refused(2, 0)),
-        ("the lengths", SHORT, Refused(3, 0)),
-        (
-            "the output and what follows",
-            SHORT.reference(96),
-            Refused(3, 1),
-        ),
-        (
-            "the source and the buffer",
-            SHORT.reference(96).output(96),
-            Refused(4, 1),
-        ),
+        ("across 0", GOOD.header(0, 3, 8), 1, 0),
+        ("across 61", GOOD.header(61, 3, 8), 1, 0),
+        ("across 2^63", GOOD.header(1 << 63, 2, 8), 1, 0),
+        ("down 0", GOOD.header(2, 0, 8), 1, 1),
+        ("down 61", GOOD.header(2, 61, 8), 1, 1),
+        ("20 by 12 blocks", GOOD.header(20, 12, 8), 1, 2),
+        ("step 0", GOOD.header(2, 3, 0), 2, 0),
+        ("step 65", GOOD.header(2, 3, 65), 2, 0),
+        ("step 264", GOOD.header(2, 3, 264), 2, 0),
+        ("reference one short", GOOD.reference(95), 3, 0),
+        ("output one long", GOOD.output(97), 3, 1),
+        ("source one short", GOOD.source(95), 4, 95),
+        ("source one long", GOOD.source(97), 4, 97),
+        ("no source", GOOD.source(0), 4, 0),
+        ("no buffer", GOOD.buffer(0), 5, 0),
+        ("everything", SHORT.header(0, 0, 0), 1, 0),
+        ("down and what follows", SHORT.header(20, 0, 0), 1, 1),
+        ("total and what follows", SHORT.header(20, 12, 0), 1, 2),
+        ("the step and what follows", SHORT.header(2, 3, 0), 2, 0),
+        ("the lengths", SHORT, 3, 0),
+        ("the output and what follows", SHORT.reference(96), 3, 1),
+        ("the source and the buffer", GOOD.source(1).buffer(0), 4, 1),
     ]
 }
 
-fn is_filled(bytes: &[u8], value: u8) -> bool {
-    bytes.iter().all(|byte| *byte == value)
-}
-
 // The answer is the frame's length.
-fn code(heap: Global, call: Call) -> Result<Outcome, Failure> {
+fn code(heap: Global, call: Call) -> Result<u64, Failure> {
     let mut source = vec![in heap; 0; call.source]?;
     Random::new(7).fill(&mut source);
     let reference = vec![in heap; 1; call.reference]?;
@@ -169,61 +124,52 @@ fn code(heap: Global, call: Call) -> Result<Outcome, Failure> {
         &mut buffer,
         &mut output,
     );
-    Ok(Outcome {
-        answer: res.map(|length| length as u64).map_err(Refused::from),
-        changed: !is_filled(&output, 2) || !is_filled(&buffer, 3),
-    })
+    let unchanged = is_filled(&output, 2) && is_filled(&buffer, 3);
+    answered(res.map(|length| length as u64), unchanged)
 }
 
-fn key_frame(bytes: &[u8]) -> Frame<'_> {
-    Frame {
+fn show(heap: Global, call: Call) -> Result<u64, Failure> {
+    let frame = Frame {
         header: FrameHeader { key: true },
-        bytes,
-    }
-}
-
-fn show(heap: Global, call: Call) -> Result<Outcome, Failure> {
+        bytes: &[128],
+    };
     let reference = vec![in heap; 1; call.reference]?;
     let mut output = vec![in heap; 2; call.output]?;
-    let answer = match frame::show(call.header, key_frame(&[128]), &reference, &mut output) {
-        Ok(()) => Ok(0),
-        Err(ShowError::Invalid) => return Err(Failure::NotShown),
-        Err(ShowError::Rejected(rejection)) => Err(rejection.into()),
-    };
-    let changed = !is_filled(&output, 2);
-    Ok(Outcome { answer, changed })
+    let res = frame::show(call.header, frame, &reference, &mut output);
+    answered(res.map(|()| 0), is_filled(&output, 2))
 }
 
 // A buffer is long enough if the frame at hand fits.
 fn check_buffer(group: &mut Group) -> Result<(), Failure> {
-    let roomy = code(group.heap(), GOOD)?;
-    let exact = roomy.answer.unwrap_or(0);
-    let short = exact.saturating_sub(1);
-    let found = code(group.heap(), GOOD.buffer(short as usize))?;
-    check_outcome(group, "buffer one short", found, Err(Refused(5, short)));
-    let found = code(group.heap(), GOOD.buffer(exact as usize))?;
-    check_outcome(group, "buffer just long enough", found, Ok(exact));
+    let heap = group.heap();
+    let length = code(heap, GOOD)?;
+    let short = length.saturating_sub(1);
+    let found = code(heap, GOOD.buffer(short as usize));
+    group.equal("buffer one short", found, Err(Failure::Rejected(5, short)));
+    let found = code(heap, GOOD.buffer(length as usize));
+    group.equal("buffer just long enough", found, Ok(length));
     Ok(())
 }
 
 pub fn check_coding(group: &mut Group) -> Result<(), Failure> {
-    for (name, call, refused) in calls() {
-        let found = code(group.heap(), call)?;
-        check_outcome(group, name, found, Err(refused));
+    let heap = group.heap();
+    for (name, call, number, position) in calls() {
+        let wanted = Err(Failure::Rejected(number, position));
+        group.equal(name, code(heap, call), wanted);
     }
     check_buffer(group)
 }
 
 // A decoder makes the first three checks.
 pub fn check_showing(group: &mut Group) -> Result<(), Failure> {
-    for (name, call, refused) in calls() {
-        if refused.0 <= 3 {
-            let found = show(group.heap(), call)?;
-            check_outcome(group, name, found, Err(refused));
+    let heap = group.heap();
+    for (name, call, number, position) in calls() {
+        if number <= 3 {
+            let wanted = Err(Failure::Rejected(number, position));
+            group.equal(name, show(heap, call), wanted);
         }
     }
-    let found = show(group.heap(), GOOD)?;
-    check_outcome(group, "none", found, Ok(0));
+    group.equal("none", show(heap, GOOD), Ok(0));
     Ok(())
 }
 
@@ -233,68 +179,72 @@ const LAST: u64 = 1 << 62;
 const ABOVE: u64 = LAST + 1;
 
 // Packets by name, as a receiver receives them with a picture of so many pixels lent: the number, and what comes of it.
-static PACKETS: [(&str, usize, u64, Result<u64, Refused>); 6] = [
+static PACKETS: [(&str, usize, u64, Result<u64, Failure>); 6] = [
     ("number 2^62", 16, LAST, Ok(ABOVE)),
-    ("number above 2^62", 16, ABOVE, Err(Refused(7, 0))),
-    ("number 2^64 - 1", 16, u64::MAX, Err(Refused(7, 0))),
-    ("picture one short", 15, 0, Err(Refused(3, 0))),
-    ("picture one long", 17, 0, Err(Refused(3, 0))),
-    ("both", 17, ABOVE, Err(Refused(3, 0))),
+    ("number above 2^62", 16, ABOVE, Err(Failure::Rejected(7, 0))),
+    (
+        "number 2^64 - 1",
+        16,
+        u64::MAX,
+        Err(Failure::Rejected(7, 0)),
+    ),
+    ("picture one short", 15, 0, Err(Failure::Rejected(3, 0))),
+    ("picture one long", 17, 0, Err(Failure::Rejected(3, 0))),
+    ("both", 17, ABOVE, Err(Failure::Rejected(3, 0))),
 ];
 
-// The answer is the number expected next.
-fn receive(heap: Global, format: Format, pixels: usize, number: u64) -> Result<Outcome, Failure> {
-    let packet = Packet {
+// A key frame of one block, flat.
+fn flat_packet(number: u64, bytes: &[u8; 1]) -> Packet<'_> {
+    let header = FrameHeader { key: true };
+    Packet {
         number,
-        frame: key_frame(&[128]),
-    };
+        frame: Frame { header, bytes },
+    }
+}
+
+// The answer is the number expected next.
+fn receive(heap: Global, format: Format, pixels: usize, number: u64) -> Result<u64, Failure> {
+    let packet = flat_packet(number, &[128]);
     let mut picture = vec![in heap; 2; pixels]?;
     let res = stream::receive(format, Receiver::new(), packet, &mut picture);
-    Ok(Outcome {
-        answer: res.map(|receiver| receiver.next).map_err(Refused::from),
-        changed: !is_filled(&picture, 2),
-    })
+    answered(res.map(|receiver| receiver.next), is_filled(&picture, 2))
 }
 
 // A screen stays sure of its picture when it rejects a packet.
-fn receive_on_screen(format: Format) -> Result<Outcome, Failure> {
+fn receive_on_screen(format: Format) -> Result<u64, Failure> {
     let mut screen = Screen::new(format);
-    screen.receive(Packet {
-        number: 0,
-        frame: key_frame(&[128]),
-    })?;
-    let res = screen.receive(Packet {
-        number: ABOVE,
-        frame: key_frame(&[255]),
-    });
+    screen.receive(flat_packet(0, &[128]))?;
+    let res = screen.receive(flat_packet(ABOVE, &[255]));
     let unchanged = screen.sure() && screen.shown() == Some(0) && is_filled(screen.picture(), 128);
-    Ok(Outcome {
-        answer: res.map(|()| 0).map_err(Refused::from),
-        changed: !unchanged,
-    })
+    answered(res.map(|()| 0), unchanged)
 }
 
 pub fn check_receiving(group: &mut Group) -> Result<(), Failure> {
     let format = Format::new(1, 1, 8)?;
     for (name, pixels, number, wanted) in &PACKETS {
-        let found = receive(group.heap(), format, *pixels, *number)?;
-        check_outcome(group, *name, found, *wanted);
+        let found = receive(group.heap(), format, *pixels, *number);
+        group.equal(*name, found, *wanted);
     }
-    let found = receive_on_screen(format)?;
-    check_outcome(group, "on a screen", found, Err(Refused(7, 0)));
+    let found = receive_on_screen(format);
+    group.equal("on a screen", found, Err(Failure::Rejected(7, 0)));
     Ok(())
 }
 
 // Sources by name, as an encoder is pushed them: their lengths, the buffer's, and what comes of it.
-static SOURCES: [(&str, usize, usize, Result<u64, Refused>); 4] = [
+static SOURCES: [(&str, usize, usize, Result<u64, Failure>); 4] = [
     ("none", 16, 288, Ok(1)),
-    ("source one short", 15, 288, Err(Refused(4, 15))),
-    ("source one long, no buffer", 17, 0, Err(Refused(4, 17))),
-    ("buffer too short", 16, 2, Err(Refused(5, 2))),
+    ("source one short", 15, 288, Err(Failure::Rejected(4, 15))),
+    (
+        "source one long, no buffer",
+        17,
+        0,
+        Err(Failure::Rejected(4, 17)),
+    ),
+    ("buffer too short", 16, 2, Err(Failure::Rejected(5, 2))),
 ];
 
 // Pushes a source to an encoder that has made a frame. The answer is the frame's number.
-fn push(heap: Global, format: Format, pixels: usize, length: usize) -> Result<Outcome, Failure> {
+fn push(heap: Global, format: Format, pixels: usize, length: usize) -> Result<u64, Failure> {
     let mut encoder = Encoder::new(format);
     encoder.push(&[200; 16], false, &mut [0; 288])?;
     let mut source = vec![in heap; 0; pixels]?;
@@ -304,17 +254,14 @@ fn push(heap: Global, format: Format, pixels: usize, length: usize) -> Result<Ou
     let unchanged = encoder.next_number() == 1
         && is_filled(encoder.picture(), 200)
         && is_filled(&buffer, 3);
-    Ok(Outcome {
-        answer: res.map(|pushed| pushed.number).map_err(Refused::from),
-        changed: !unchanged,
-    })
+    answered(res.map(|pushed| pushed.number), unchanged)
 }
 
 pub fn check_pushing(group: &mut Group) -> Result<(), Failure> {
     let format = Format::new(1, 1, 8)?;
     for (name, pixels, length, wanted) in &SOURCES {
-        let found = push(group.heap(), format, *pixels, *length)?;
-        check_outcome(group, *name, found, *wanted);
+        let found = push(group.heap(), format, *pixels, *length);
+        group.equal(*name, found, *wanted);
     }
     Ok(())
 }

@@ -44,6 +44,16 @@ impl Recorded {
             picture: Vec::from_slice(heap, encoder.picture())?,
         })
     }
+
+    fn packet(&self) -> Packet<'_> {
+        Packet {
+            number: self.number,
+            frame: Frame {
+                header: self.header,
+                bytes: &self.bytes,
+            },
+        }
+    }
 }
 
 #[derive(Drop)]
@@ -93,13 +103,7 @@ impl Video {
         screen: &mut Screen,
         frame: &Recorded,
     ) -> Result<(), Failure> {
-        screen.receive(Packet {
-            number: frame.number,
-            frame: Frame {
-                header: frame.header,
-                bytes: &frame.bytes,
-            },
-        })?;
+        screen.receive(frame.packet())?;
         if screen.sure() {
             group.passes(frame.number, self.check_shown(screen));
         }
