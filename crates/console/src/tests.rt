@@ -1,8 +1,9 @@
 use crate::{Arguments, Input, Lines, Output, Refusal, Source, Wish, read_wish};
+use std::fs;
 use std::io::Write;
 use std::test::Fail;
 
-const FILE: &str = "/tmp/console-lines";
+const FILE: &str = "/tmp/zukhtavo-console-lines";
 
 // Takes any words.
 #[derive(Drop)]
@@ -34,6 +35,7 @@ fn reads_lines(rt: HostRuntime) -> Result<(), Fail> {
     let one = next_text(&mut lines).map_err(Fail::new)?;
     let two = next_text(&mut lines).map_err(Fail::new)?;
     let none = next_text(&mut lines).map_err(Fail::new)?;
+    fs::remove_file(&rt, FILE)?;
     assert_eq!(rt; one.as_deref(), Some("one"));
     assert_eq!(rt; two.as_deref(), Some("two"));
     assert_eq!(rt; none.as_deref(), None);
