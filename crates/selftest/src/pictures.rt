@@ -1,6 +1,4 @@
 // Pictures to code.
-ghost use Rattle.std.specs.Prelude.{◌<◌};
-
 use crate::random::Random;
 
 // A picture of one value, or of noise.
@@ -20,9 +18,7 @@ pub fn shift(picture: &mut [u8], by: usize) {
 }
 
 // Changes one pixel in so many.
-pub fn change(random: &mut Random, picture: &mut [u8], rarity: u64)
-    requires { 0 < rarity }
-{
+pub fn change(random: &mut Random, picture: &mut [u8], rarity: u64) {
     for pixel in picture {
         if random.below(rarity) == 0 {
             *pixel = random.byte();

@@ -18,12 +18,11 @@ impl Random {
         self.state
     }
 
-    // 0 to one below the limit.
+    // 0 to one below the limit; 0 if the limit is 0.
     pub fn below(&mut self, limit: u64) -> u64
-        requires { 0 < limit }
-        ensures { result < limit }
+        ensures { 0 < limit → result < limit }
     {
-        (self.next() >> 16) % limit
+        (self.next() >> 16).checked_rem(limit).unwrap_or(0)
     }
 
     pub fn byte(&mut self) -> u8 {
