@@ -5,7 +5,7 @@ use stream::Receiver;
 
 // A receiver as C keeps it, beside the picture that it shows. All of its bits are numbers, so that none can be wrong.
 #[repr(C)]
-#[derive(Clone, Copy)]
+#[derive(Clone, Copy, PartialEq, Eq, Debug)]
 pub struct CReceiver {
     // The sequence number that it expects next.
     pub next: u64,

@@ -1,7 +1,7 @@
 -- What an error of the layers below is refused as. Assumes nothing: these are definitions.
 use Rattle.std.specs.Prelude.{ℕ}
 use Rattle.console.specs.declared.refusal.Refusal.{Refusal}
-use Rattle.console.specs.declared.refusal.Refusal.TheVariants.{OutOfMemory, Rejected}
+use Rattle.console.specs.declared.refusal.Refusal.TheVariants.{OutOfMemory, Rejected, Sentence}
 use Rattle.text.specs.Placing.{placed_at}
 use Rattle.text.specs.declared.error.PacketError.{PacketError}
 use Rattle.text.specs.declared.error.PacketError.TheVariants as packet
@@ -14,3 +14,9 @@ of_packet packet.OutOfMemory = OutOfMemory
 abbrev pub placed_from : (offset : ℕ) → Refusal → Refusal
 placed_from offset (Rejected rejection) = Rejected (placed_at offset rejection)
 placed_from offset refusal = refusal
+
+-- a sentence, or that there was no memory to make it
+abbrev pub IsSaid : Refusal → Type 0
+IsSaid (Sentence sentence) = Unit {0}
+IsSaid OutOfMemory = Unit {0}
+IsSaid refusal = ⊥

@@ -2,6 +2,7 @@
 ghost use Rattle.std.specs.Prelude.{◌≤◌};
 ghost use Rattle.std.specs.Iterator.{at_most};
 ghost use Rattle.console.specs.Arguments.{words_left};
+ghost use Rattle.console.specs.Refusals.{IsSaid};
 
 use crate::refusal::Refusal;
 use std::alloc::Global;
@@ -51,7 +52,9 @@ impl Arguments {
     }
 
     // What is said of a word that looks like an option and is none.
-    pub fn unknown_option(&self, word: &str) -> Refusal {
+    pub fn unknown_option(&self, word: &str) -> Refusal
+        ensures { IsSaid result }
+    {
         let program = self.program;
         Refusal::sentence(format!(in self.heap;
             "there is no option `{word}`; see {program} --help"

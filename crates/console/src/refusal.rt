@@ -8,7 +8,7 @@ use std::alloc::AllocError;
 use std::process::ExitCode;
 use std::{fmt, io};
 
-#[derive(Drop)]
+#[derive(Debug, Drop)]
 pub enum Refusal {
     // What was read is no text, packet or format.
     Rejected(Rejection),

@@ -27,6 +27,7 @@ pub fn read_wish<W: Wish>(
     ensures { IfOk result (λ read. IfSome read W.allowed) }
 {
     let mut arguments = Arguments::new(rt, program)?;
+    // A flag, since the words after it are read and refused all the same.
     let mut help = false;
     while let Some(word) = arguments.next() {
         match word.as_str() {

@@ -32,6 +32,7 @@ fn small_file(rt: &impl Abort, heap: Global) -> Result<Vec<u8>, Fail> {
 // How many packets a file plays, and where it is cut, if it is.
 fn play(file: &[u8]) -> Result<(usize, Option<u64>), Fail> {
     let mut position = 16;
+    // The count is what is asked for, and ends the loop too.
     for count in 0..usize::MAX {
         match read_packet(file, position) {
             Ok(None) => return Ok((count, None)),

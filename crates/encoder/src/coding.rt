@@ -7,7 +7,7 @@ ghost use Rattle.frame.specs.Frame.{block_count};
 ghost use Rattle.frame.specs.Show.{format_of, header_format};
 
 use crate::input::FrameInput;
-use frame::{Format, FrameHeader, Rejection, VideoHeader};
+use frame::{Format, FrameHeader, MAX_PIXELS, Rejection, VideoHeader};
 use range_coder::Writer;
 
 // How many bytes any frame of a format fits in.
@@ -43,7 +43,7 @@ pub fn code_frame(
     input.check_pictures(output)?;
     let mut writer = Writer::new();
     // There is no heap: the scratch picture has room for one of any format.
-    let mut scratch = [0u8; 3584];
+    let mut scratch = [0; MAX_PIXELS];
     let picture = &mut scratch[..input.format.pixel_count()];
     input.encode(&mut writer, picture);
     let bytes = writer.finish();

@@ -3,7 +3,7 @@ use block::{Plane, Step};
 use frame::{Format, FrameHeader};
 
 // A picture to be coded as a frame, and the reference picture that its blocks may be taken from.
-#[derive(Clone, Copy)]
+#[derive(Clone, Copy, PartialEq, Eq, Debug)]
 pub struct FrameInput<'a> {
     pub format: Format,
     pub header: FrameHeader,

@@ -7,7 +7,7 @@ ghost use Rattle.frame.specs.Video.{Video, picture_after};
 
 use crate::coding::code_frame;
 use crate::input::FrameInput;
-use frame::{Format, FrameHeader, MAX_SEQUENCE_NUMBER, Rejection};
+use frame::{Format, FrameHeader, MAX_PIXELS, MAX_SEQUENCE_NUMBER, Rejection};
 
 #[derive(Drop)]
 pub struct Encoder {
@@ -15,7 +15,7 @@ pub struct Encoder {
     // The sequence number of the next frame.
     next: u64,
     // The first of them are the reference picture. There is no heap in a camera, so there is room for one of any format.
-    pixels: [u8; 3584],
+    pixels: [u8; MAX_PIXELS],
 }
 
 // A frame in the buffer: its sequence number, whether it is a key frame, and how many bytes it has.
@@ -35,7 +35,7 @@ impl Encoder {
         Encoder {
             format,
             next: 0,
-            pixels: [0; 3584],
+            pixels: [0; MAX_PIXELS],
         }
     }
 
@@ -82,7 +82,7 @@ impl Encoder {
             reference: &self.pixels[..pixels],
         };
         // There is no heap: the scratch picture has room for one of any format.
-        let mut scratch = [0; 3584];
+        let mut scratch = [0; MAX_PIXELS];
         let picture = &mut scratch[..pixels];
         let length = code_frame(input, buffer, picture)?;
         self.pixels[..pixels].copy_from_slice(picture);

@@ -2,8 +2,11 @@ ghost use Rattle.std.specs.Prelude.{◌*◌, ◌≤◌};
 
 use block::Step;
 
+// How many pixels a picture of any format has at most.
+pub const MAX_PIXELS: usize = 3584;
+
 // A video's size in blocks, and its quantiser step.
-#[derive(Clone, Copy)]
+#[derive(Clone, Copy, PartialEq, Eq, Debug)]
 pub struct Format {
     pub(crate) across: usize,
     pub(crate) down: usize,

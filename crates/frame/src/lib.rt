@@ -15,7 +15,7 @@ mod showing;
 
 pub use checks::check_number;
 pub use drawing::put_block;
-pub use format::Format;
+pub use format::{Format, MAX_PIXELS};
 pub use header::{FrameHeader, VideoHeader};
 pub use packet::{Frame, MAX_SEQUENCE_NUMBER, Packet};
 pub use promises::{key_alone, said_in_bits, within_edges, worked_examples, zeros_ignored};

@@ -7,7 +7,7 @@ ghost use Rattle.frame.specs.declared.rejection.Plane.TheVariants.{Reference};
 ghost use Rattle.frame.specs.declared.show_error.ShowError.TheVariants.{Invalid};
 
 use crate::decoding::decode;
-use crate::format::Format;
+use crate::format::{Format, MAX_PIXELS};
 use crate::header::VideoHeader;
 use crate::packet::Frame;
 use crate::rejection::Plane;
@@ -18,7 +18,7 @@ fn decode_aside<'a>(
     format: Format,
     frame: Frame<'_>,
     reference: &[u8],
-    scratch: &'a mut [u8; 3584],
+    scratch: &'a mut [u8; MAX_PIXELS],
 ) -> Result<&'a [u8], ShowError>
     ensures shown { IfOk result (λ picture. ShownIn (format_of format) (frame_of frame.entry) reference.now picture.now) }
     ensures invalid { IfErr result (λ e. (e ≡ Invalid) × (valid (format_of format) (frame_of frame.entry) ≡ false)) }
@@ -42,7 +42,7 @@ pub fn show_frame(
         // It is always valid, and looks at no reference picture.
         return decode(format, frame, &[], output);
     }
-    let mut scratch = [0; 3584];
+    let mut scratch = [0; MAX_PIXELS];
     output.copy_from_slice(decode_aside(format, frame, reference, &mut scratch)?);
     Ok(())
 }
@@ -55,7 +55,7 @@ pub fn redraw(format: Format, frame: Frame<'_>, picture: &mut [u8]) -> Result<()
     if frame.header.key {
         return decode(format, frame, &[], picture);
     }
-    let mut scratch = [0; 3584];
+    let mut scratch = [0; MAX_PIXELS];
     picture.copy_from_slice(decode_aside(format, frame, picture, &mut scratch)?);
     Ok(())
 }

@@ -8,14 +8,14 @@ ghost use Rattle.frame.specs.Video.{picture_after};
 
 use crate::receiver::Receiver;
 use crate::receiving::receive;
-use frame::{Format, Packet, Rejection};
+use frame::{Format, MAX_PIXELS, Packet, Rejection};
 
 #[derive(Drop)]
 pub struct Screen {
     format: Format,
     receiver: Receiver,
     // The first of them are the picture: there is room for one of any format, since a camera has no heap.
-    pixels: [u8; 3584],
+    pixels: [u8; MAX_PIXELS],
 }
 
 impl Screen {
@@ -27,7 +27,7 @@ impl Screen {
         Screen {
             format,
             receiver: Receiver::new(),
-            pixels: [0; 3584],
+            pixels: [0; MAX_PIXELS],
         }
     }
 

@@ -5,7 +5,7 @@ use frame::Rejection;
 use std::alloc::{AllocError, AllocFailed};
 
 // Why a packet is not read or not written.
-#[derive(Clone, Copy)]
+#[derive(Clone, Copy, PartialEq, Eq, Debug)]
 pub enum PacketError {
     Rejected(Rejection),
     OutOfMemory,

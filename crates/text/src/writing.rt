@@ -1,4 +1,4 @@
-// The line that says a value.
+// The line that says a value. These are functions and no `impl Display`, since a header and a packet are types of `frame`.
 ghost use Rattle.std.specs.Prelude.{◌≡◌, ◌++◌, map, IfOk, string_bytes, decimal, OnOk};
 ghost use Rattle.text.specs.Text.{header_text, lent_fields, packet_text, row_text, spaced, sure_text, unsure_text, worst_text};
 
