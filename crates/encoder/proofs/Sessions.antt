@@ -1,13 +1,12 @@
 -- An encoder made, and after one frame more: it goes on from the picture that its frames show.
-use Rattle.std.proofs.Common.{◌≡◌, ℕ, zero, suc, ◌+◌, ◌*◌, ◌/◌, ◌^◌, ◌<◌, ◌≤◌, Bool, ◌||◌, eqb, List, ◌++◌, length, get_or, take, drop, replicate, Some, None, Ok, Err, Option, Result, refl, ap, ◌∙◌, add-one, arith, length-take-le, take_at}
+use Rattle.std.proofs.Common.{◌≡◌, ℕ, zero, suc, ◌+◌, ◌*◌, ◌/◌, ◌<◌, ◌≤◌, Bool, ◌||◌, eqb, List, ◌++◌, length, get_or, take, drop, replicate, Some, None, Ok, Err, Option, Result, refl, ap, ◌∙◌, add-one, arith, length-take-le, take_at}
 use Rattle.std.proofs.lemmas.Simd.{length-replicate}
-use Rattle.std.proofs.lemmas.Bool.{eq-eqb, le-leb, lt-leb, or_right}
+use Rattle.std.proofs.lemmas.Bool.{eq-eqb, or_right}
 use Rattle.block.specs.Picture.{Picture, black, picture_in}
 use Rattle.frame.specs.Frame.{Format, Frame, Holds, block_count, shows}
-use Rattle.frame.specs.Rejection.{planes_rejection}
+use Rattle.frame.specs.Rejection.{number_rejection}
 use Rattle.frame.specs.Video.{Near, Video, picture_after}
 use Rattle.frame.specs.declared.rejection.Rejection.{Rejection}
-use Rattle.frame.specs.declared.rejection.Rejection.TheVariants.{BadText}
 use Rattle.frame.proofs.Edges.{within_edges}
 use Rattle.encoder.specs.Code.{CodeSays, Coded, frame_of, pictures_rejection}
 use Rattle.encoder.specs.Promise.{PictureNear}
@@ -61,7 +60,7 @@ module _ (f : Format) (key : Bool) (source reference bytes output : List ℕ) (c
   shows_near x y xl yl = rw (← same x y xl yl) (coded.close x y xl yl)
 
 module _ (e : Encoder) (source : List ℕ) (asked key : Bool) (buffer buffer₁ scratch part : List ℕ) (lent : ℕ)
-    (is_key : key ≡ (asked || eqb e.next 0)) (early : e.next ≤ 2 ^ 62)
+    (is_key : key ≡ (asked || eqb e.next 0)) (early : None ≡ number_rejection e.next)
     (whole : lent ≡ 16 * block_count (encoder_format e)) (room : lent ≤ length e.pixels) (scratch_room : lent ≤ length scratch) where
   abbrev f : Format
   f = encoder_format e
@@ -77,7 +76,7 @@ module _ (e : Encoder) (source : List ℕ) (asked key : Bool) (buffer buffer₁ 
       rw (
         eq-eqb (length (take lent e.pixels)) (16 * block_count f) (length-take-le lent e.pixels room ∙ whole),
         eq-eqb (length (take lent scratch)) (16 * block_count f) (length-take-le lent scratch scratch_room ∙ whole),
-        le-leb e.next (2 ^ 62) early,
+        ← early,
       )
 
   pub push_rejected : (x : Rejection) → Said (pictures_rejection (16 * block_count f) source (take lent e.pixels) (take lent scratch)) (Err x)
@@ -138,7 +137,7 @@ module _ (e : Encoder) (source : List ℕ) (asked key : Bool) (buffer buffer₁ 
             }
         go (Some x) h = absurd (let z : ◌≡◌ {A = ℕ} 0 1 = cc in let y : ⊥ = omega arith in y)
 
-pub number_rejected : (e : Encoder) (source : List ℕ) (asked : Bool) (buffer : List ℕ) → 2 ^ 62 < e.next
-    → PushSays (push_rejection e source) e source asked buffer (Err (BadText 0)) e buffer
+pub number_rejected : (e : Encoder) (source : List ℕ) (asked : Bool) (buffer : List ℕ) (x : Rejection) → Some x ≡ number_rejection e.next
+    → PushSays (push_rejection e source) e source asked buffer (Err x) e buffer
 unfolding push_rejection
-number_rejected e source asked buffer late = rw (lt-leb e.next (2 ^ 62) late) (refl, refl, refl)
+number_rejected e source asked buffer x late = rw (← late) (refl, refl, refl)

@@ -1,13 +1,13 @@
 -- What an encoder that keeps its own reference picture has been through, and what one frame more answers and leaves.
 -- Assumes nothing: these are definitions.
-use Rattle.std.specs.Prelude.{◌≡◌, ℕ, suc, ◌*◌, ◌/◌, ◌^◌, ◌<◌, ◌≤◌, Bool, cond, ◌||◌, List, length, take, Some, None, Ok, Err, Option, Result, ◌==◌, nat_le, slice_index}
+use Rattle.std.specs.Prelude.{◌≡◌, ℕ, suc, ◌*◌, ◌/◌, ◌<◌, ◌≤◌, Bool, cond, ◌||◌, List, length, take, Some, None, Ok, Err, Option, Result, ◌==◌, slice_index}
 use Rattle.block.specs.Picture.{Picture, picture_in}
 use Rattle.frame.specs.Frame.{Format, Holds, block_count}
-use Rattle.frame.specs.Rejection.{or_else, unless}
+use Rattle.frame.specs.Rejection.{number_rejection, or_else, unless}
 use Rattle.frame.specs.Show.{format_of}
 use Rattle.frame.specs.Video.{Follows, Near, Video, Whole, picture_after}
 use Rattle.frame.specs.declared.rejection.Rejection.{Rejection}
-use Rattle.frame.specs.declared.rejection.Rejection.TheVariants.{BadText, BufferTooShort, SourceLength}
+use Rattle.frame.specs.declared.rejection.Rejection.TheVariants.{BufferTooShort, SourceLength}
 use Rattle.encoder.specs.Code.{Coded, TooShort, frame_of, worst_case}
 use Rattle.encoder.specs.declared.session.Encoder.{Encoder}
 use Rattle.encoder.specs.declared.session.Pushed.{Pushed}
@@ -63,7 +63,7 @@ pub record PushedAs (e : Encoder) (source : List ℕ) (asked : Bool) (buffer : L
 -- what a source can be rejected for: a sequence number above 2^62, and then its length
 unfoldable pub push_rejection : Encoder → (source : List ℕ) → Option Rejection
 push_rejection e source =
-    or_else (unless (nat_le e.next (2 ^ 62)) (BadText 0))
+    or_else (number_rejection e.next)
     (unless (length source == 16 * block_count (encoder_format e)) (SourceLength (length source)))
 
 -- a buffer is called short only where it is shorter than the worst case and than the frame at hand; what is rejected changes nothing

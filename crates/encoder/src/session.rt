@@ -7,7 +7,7 @@ ghost use Rattle.frame.specs.Video.{Video, picture_after};
 
 use crate::coding::code_frame;
 use crate::input::FrameInput;
-use frame::{Format, FrameHeader, MAX_PIXELS, MAX_SEQUENCE_NUMBER, Rejection};
+use frame::{Format, FrameHeader, MAX_PIXELS, Rejection};
 
 #[derive(Drop)]
 pub struct Encoder {
@@ -68,9 +68,7 @@ impl Encoder {
     pub fn push(&mut self, source: &[u8], key: bool, buffer: &mut [u8]) -> Result<Pushed, Rejection>
         ensures { PushSays (push_rejection self.old source.now) self.old source.now key buffer.old result self.new buffer.new }
     {
-        if self.next > MAX_SEQUENCE_NUMBER {
-            return Err(Rejection::BadText(0));
-        }
+        frame::check_number(self.next)?;
         let header = FrameHeader {
             key: self.next_is_key(key),
         };
