@@ -2,7 +2,7 @@
 ghost use Rattle.std.specs.Prelude.{◌≡◌, ℕ, ◌+◌, ◌*◌, ◌<◌, ◌≤◌, ◌⊎◌, length, slice_index};
 ghost use Rattle.frame.specs.Decoding.{BlockPut};
 
-// Writes the sixteen pixels of a block into its column of the row of blocks.
+// Writes the four rows of a block into its column of the row of blocks.
 fn put_pixels(band: &mut [u8], width: usize, column: usize, pixels: [u8; 16])
     requires band { 4 * width ≤ length band.old }
     requires column { 4 * column + 4 ≤ width }
@@ -10,8 +10,9 @@ fn put_pixels(band: &mut [u8], width: usize, column: usize, pixels: [u8; 16])
     ensures drawn { BlockPut width column pixels band.old band.new }
     ensures after { (k : ℕ) → 4 * width ≤ k → slice_index band.new k ≡ slice_index band.old k }
 {
-    for i in 0..16 {
-        band[(i / 4) * width + (4 * column + i % 4)] = pixels[i];
+    for row in 0..4 {
+        let start = row * width + 4 * column;
+        band[start..start + 4].copy_from_slice(&pixels[4 * row..4 * row + 4]);
     }
 }
 

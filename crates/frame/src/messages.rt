@@ -1,32 +1,9 @@
 // What a rejection says to a person and to a program.
 ghost use Rattle.std.specs.Prelude.{◌≡◌};
-ghost use Rattle.frame.specs.Rejection.{code_of, extent_position, plane_position, position_of};
+ghost use Rattle.frame.specs.Rejection.{code_of, position_of};
 
 use crate::rejection::{Extent, Plane, Rejection};
 use std::fmt;
-
-impl Extent {
-    fn position(self) -> u64
-        ensures { result ≡ extent_position self }
-    {
-        match self {
-            Extent::Across => 0,
-            Extent::Down => 1,
-            Extent::Total => 2,
-        }
-    }
-}
-
-impl Plane {
-    fn position(self) -> u64
-        ensures { result ≡ plane_position self }
-    {
-        match self {
-            Plane::Reference => 0,
-            Plane::Output => 1,
-        }
-    }
-}
 
 impl Rejection {
     pub fn code(self) -> u64
@@ -47,13 +24,13 @@ impl Rejection {
         ensures { result ≡ position_of self }
     {
         match self {
-            Rejection::BlockCount(extent) => extent.position(),
+            Rejection::BlockCount(extent) => extent as u64,
             Rejection::StepRange => 0,
-            Rejection::PictureLength(plane) => plane.position(),
-            Rejection::SourceLength(length) => length,
-            Rejection::BufferTooShort(length) => length,
-            Rejection::PacketCut(position) => position,
-            Rejection::BadText(position) => position,
+            Rejection::PictureLength(plane) => plane as u64,
+            Rejection::SourceLength(number)
+            | Rejection::BufferTooShort(number)
+            | Rejection::PacketCut(number)
+            | Rejection::BadText(number) => number,
         }
     }
 
@@ -76,10 +53,12 @@ impl Rejection {
 
 impl fmt::Display for Rejection {
     fn fmt<W: fmt::Write>(&self, f: &mut fmt::Formatter<W>) -> fmt::Result {
-        let rejection = *self;
-        let code = rejection.code();
-        let position = rejection.position();
-        let reason = rejection.reason();
-        write!(f, "{reason} (code {code}, position {position})")
+        write!(
+            f,
+            "{} (code {}, position {})",
+            self.reason(),
+            self.code(),
+            self.position()
+        )
     }
 }
