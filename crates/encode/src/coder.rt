@@ -51,8 +51,6 @@ impl Coder {
         let key = key || self.is_due();
         let pushed = self.encoder.push(source, key, &mut self.buffer)?;
         let worst = encoder::worst_distance(self.encoder.picture(), source);
-        let length = pushed.length.min(self.buffer.len());
-        self.packets
-            .write(rt, pushed, &self.buffer[0..length], worst)
+        self.packets.write(rt, pushed.packet(&self.buffer), worst)
     }
 }

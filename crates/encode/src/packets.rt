@@ -1,7 +1,6 @@
 // Where packets go: as text to standard output, or in binary to a video file.
 use console::{Output, Refusal};
-use encoder::Pushed;
-use frame::{Frame, FrameHeader, Packet, VideoHeader};
+use frame::{Packet, VideoHeader};
 use std::io::Write;
 
 #[derive(Drop)]
@@ -37,18 +36,10 @@ impl Packets {
     pub fn write(
         &mut self,
         rt: &HostRuntime,
-        pushed: Pushed,
-        bytes: &[u8],
+        packet: Packet<'_>,
         worst: u8,
     ) -> Result<(), Refusal> {
         let heap = rt.alloc();
-        let packet = Packet {
-            number: pushed.number,
-            frame: Frame {
-                header: FrameHeader { key: pushed.key },
-                bytes,
-            },
-        };
         match self {
             Packets::Text => {
                 rt.println(text::write_packet(heap, packet)?)?;

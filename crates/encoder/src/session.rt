@@ -1,5 +1,5 @@
 // An encoder that keeps its own reference picture and sequence number.
-ghost use Rattle.std.specs.Prelude.{◌≡◌, ℕ, ◌||◌, length, ◌==◌};
+ghost use Rattle.std.specs.Prelude.{◌≡◌, ℕ, ◌||◌, length, take, ◌==◌};
 ghost use Rattle.block.specs.Picture.{Picture};
 ghost use Rattle.encoder.specs.Session.{Made, PushSays, ShowsLast, encoder_format, encoder_pixels, push_rejection};
 ghost use Rattle.frame.specs.Frame.{Holds};
@@ -7,7 +7,7 @@ ghost use Rattle.frame.specs.Video.{Video, picture_after};
 
 use crate::coding::code_frame;
 use crate::input::FrameInput;
-use frame::{Format, FrameHeader, MAX_PIXELS, Rejection};
+use frame::{Format, Frame, FrameHeader, MAX_PIXELS, Packet, Rejection};
 
 #[derive(Drop)]
 pub struct Encoder {
@@ -24,6 +24,28 @@ pub struct Pushed {
     pub number: u64,
     pub key: bool,
     pub length: usize,
+}
+
+impl Pushed {
+    // The frame's packet, out of the buffer that it was pushed into.
+    pub fn packet(self, buffer: &[u8]) -> Packet<'_>
+        ensures number { result.number ≡ self.number }
+        ensures header { result.frame.header.key ≡ self.key }
+        ensures bytes { result.frame.bytes.now ≡ take self.length buffer.now }
+    {
+        let Pushed {
+            number,
+            key,
+            length,
+        } = self;
+        Packet {
+            number,
+            frame: Frame {
+                header: FrameHeader { key },
+                bytes: &buffer[..length.min(buffer.len())],
+            },
+        }
+    }
 }
 
 impl Encoder {

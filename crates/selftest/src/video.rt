@@ -3,8 +3,8 @@ use crate::failure::Failure;
 use crate::group::{Group, run};
 use crate::pictures::{change, is_near, shift};
 use crate::random::Random;
-use encoder::Encoder;
-use frame::{Format, Frame, FrameHeader, Packet, VideoHeader};
+use encoder::{Encoder, Pushed};
+use frame::{Format, Packet, VideoHeader};
 use std::alloc::Global;
 use std::io;
 use stream::Screen;
@@ -18,9 +18,8 @@ const MOST_BYTES: usize = 8192;
 // A frame, its source, and the picture that its encoder says it shows.
 #[derive(Drop)]
 struct Recorded {
-    number: u64,
-    header: FrameHeader,
-    bytes: Vec<u8>,
+    pushed: Pushed,
+    buffer: Vec<u8>,
     source: Vec<u8>,
     picture: Vec<u8>,
 }
@@ -33,26 +32,18 @@ impl Recorded {
         source: &[u8],
         key: bool,
     ) -> Result<Recorded, Failure> {
-        let mut bytes = vec![in heap; 0; MOST_BYTES]?;
-        let pushed = encoder.push(source, key, &mut bytes)?;
-        bytes.truncate(pushed.length);
+        let mut buffer = vec![in heap; 0; MOST_BYTES]?;
+        let pushed = encoder.push(source, key, &mut buffer)?;
         Ok(Recorded {
-            number: pushed.number,
-            header: FrameHeader { key: pushed.key },
-            bytes,
+            pushed,
+            buffer,
             source: Vec::from_slice(heap, source)?,
             picture: Vec::from_slice(heap, encoder.picture())?,
         })
     }
 
     fn packet(&self) -> Packet<'_> {
-        Packet {
-            number: self.number,
-            frame: Frame {
-                header: self.header,
-                bytes: &self.bytes,
-            },
-        }
+        self.pushed.packet(&self.buffer)
     }
 }
 
@@ -85,7 +76,7 @@ impl Video {
         let frame = self
             .frames
             .iter()
-            .find(|frame| frame.number == number)
+            .find(|frame| frame.pushed.number == number)
             .ok_or(Failure::NoSuchFrame)?;
         if screen.picture() != frame.picture.as_slice() {
             return Err(Failure::OtherPicture);
@@ -105,7 +96,7 @@ impl Video {
     ) -> Result<(), Failure> {
         screen.receive(frame.packet())?;
         if screen.sure() {
-            group.passes(frame.number, self.check_shown(screen));
+            group.passes(frame.pushed.number, self.check_shown(screen));
         }
         Ok(())
     }
