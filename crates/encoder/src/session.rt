@@ -33,16 +33,12 @@ impl Pushed {
         ensures header { result.frame.header.key ≡ self.key }
         ensures bytes { result.frame.bytes.now ≡ take self.length buffer.now }
     {
-        let Pushed {
-            number,
-            key,
-            length,
-        } = self;
+        let end = self.length.min(buffer.len());
         Packet {
-            number,
+            number: self.number,
             frame: Frame {
-                header: FrameHeader { key },
-                bytes: &buffer[..length.min(buffer.len())],
+                header: FrameHeader { key: self.key },
+                bytes: &buffer[..end],
             },
         }
     }
