@@ -80,6 +80,7 @@ pub(crate) fn decode(
     };
     let mut reader = Reader::new(frame.bytes);
     let band = 16 * format.across;
+    // Each row of blocks is lent on as a part of the picture.
     for row in 0..format.down {
         decoder.decode_row(&mut reader, row, &mut output[row * band..(row + 1) * band])?;
     }

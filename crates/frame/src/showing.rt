@@ -13,7 +13,7 @@ use crate::packet::Frame;
 use crate::rejection::Plane;
 use crate::show_error::ShowError;
 
-// Decodes into a scratch picture with room for one of any format, and lends what is there of the frame's.
+// Decodes into a scratch picture, and lends what is there of the frame's. There is no heap, so it has room for one of any format.
 fn decode_aside<'a>(
     format: Format,
     frame: Frame<'_>,
