@@ -10,6 +10,7 @@ fn put_pixels(band: &mut [u8], width: usize, column: usize, pixels: [u8; 16])
     ensures drawn { BlockPut width column pixels band.old band.new }
     ensures after { (k : ℕ) → 4 * width ≤ k → slice_index band.new k ≡ slice_index band.old k }
 {
+    // By place, since of what chunks_mut lends a proof keeps the lengths, and not the pixels.
     for row in 0..4 {
         let start = row * width + 4 * column;
         band[start..start + 4].copy_from_slice(&pixels[4 * row..4 * row + 4]);

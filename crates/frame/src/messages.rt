@@ -6,6 +6,7 @@ use crate::rejection::{Extent, Plane, Rejection};
 use std::fmt;
 
 impl Rejection {
+    // C and the messages of the programs have these numbers.
     pub fn code(self) -> u64
         ensures { result ≡ code_of self }
     {
@@ -20,6 +21,7 @@ impl Rejection {
         }
     }
 
+    // A length or a position; of several things that can be wrong, which it is in their order.
     pub fn position(self) -> u64
         ensures { result ≡ position_of self }
     {
