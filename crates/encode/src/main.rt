@@ -36,6 +36,7 @@ fn run(rt: &HostRuntime) -> Result<(), Refusal> {
     let input = Input::open(rt, wish.file.as_deref().unwrap_or("-"))?;
     let mut source = Source::new(rt.alloc(), input);
     source.fill(FIRST)?;
+    // Closures, since a function of another crate has no proof as a value.
     match pictures::recognise(source.front()) {
         Form::Y4m => picture_file::code(rt, &mut source, &wish, |bytes| {
             pictures::open_y4m(bytes)

@@ -79,6 +79,7 @@ impl<'a> Row<'a> {
         ensures { (p : Progress self.now.frame (self.now.row * (input_format self.now.frame).across) writer.old) → RowEncoded self.now.frame self.now.row (input_format self.now.frame).across writer.old writer.new p band.new }
     {
         let mut before = STILL;
+        // The column is what is asked for.
         for column in 0..self.frame.format.across() {
             before = self.encode_block(writer, column, before, band);
         }
@@ -92,7 +93,7 @@ impl FrameInput<'_> {
         ensures { writer_of writer.old ≡ start_writer → writer.old.bits ≡ 8 → FrameEncoded self.now (input_format self.now).down writer.new output.new }
     {
         let band = 16 * self.format.across();
-        // Each row of blocks is lent on as a part of the picture.
+        // Each row of blocks is lent on as a part of the picture, cut by place: of what chunks_mut lends a proof keeps the lengths alone.
         for row in 0..self.format.down() {
             let blocks = Row { frame: *self, row };
             blocks.encode(writer, &mut output[row * band..(row + 1) * band]);

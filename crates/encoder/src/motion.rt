@@ -12,7 +12,7 @@ const ROUNDS: usize = 8;
 // No motion.
 pub(crate) const STILL: MotionVector = MotionVector { dx: 0, dy: 0 };
 
-// The sum of absolute differences.
+// The sum of absolute differences. A loop, since the bound of a chain's sum would ask for a contract on its closure.
 fn difference(a: [u8; 16], b: [u8; 16]) -> u32
     ensures { result ≤ 16 * 255 }
 {
@@ -23,7 +23,7 @@ fn difference(a: [u8; 16], b: [u8; 16]) -> u32
     sum
 }
 
-// The mean of sixteen pixels.
+// The mean of sixteen pixels. A loop, as above.
 fn mean(pixels: [u8; 16]) -> u8 {
     let mut sum = 8u16;
     for pixel in pixels {

@@ -1,4 +1,4 @@
-// Formats and pictures that can be worked with, and why others are rejected.
+// Formats, pictures and sequence numbers that can be worked with, and why others are rejected.
 ghost use Rattle.frame.specs.Frame.{block_count, plane_size};
 ghost use Rattle.frame.specs.Rejection.{few, number_rejection, plane_rejection, planes_rejection};
 ghost use Rattle.frame.specs.Show.{FormatSays, format_of, header_format};

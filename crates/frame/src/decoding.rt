@@ -56,6 +56,7 @@ impl BlockDecoder<'_> {
         requires band { length band.old ≡ 16 * self.now.format.across }
         ensures { (r : ReaderState) → reader_of reader.old ≡ past self.now.key r (row * self.now.format.across) → RowDecoded (format_of self.now.format) self.now.key r self.now.reference.now row reader.new band.new result }
     {
+        // The column is what is asked for.
         for column in 0..self.format.across {
             self.decode_block(reader, row, column, band)?;
         }
@@ -80,7 +81,7 @@ pub(crate) fn decode(
     };
     let mut reader = Reader::new(frame.bytes);
     let band = 16 * format.across;
-    // Each row of blocks is lent on as a part of the picture.
+    // Each row of blocks is lent on as a part of the picture, cut by place: of what chunks_mut lends a proof keeps the lengths alone.
     for row in 0..format.down {
         decoder.decode_row(&mut reader, row, &mut output[row * band..(row + 1) * band])?;
     }

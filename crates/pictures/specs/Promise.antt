@@ -23,14 +23,17 @@ ReadsBack = (size : Size) (rate : FrameRate) → 0 < size.width → size.width <
 -- end where their digits do.
 abbrev pub PlainPicture : Type 0
 PlainPicture = (size : Size) (pixels more : List ℕ) → 0 < size.width → size.width < 2 ^ 16 → 0 < size.height → size.height < 2 ^ 16 → length pixels ≡ pixel_count size →
-    pgm_of (plain_header size ++ (pixels ++ more))
-    ≡ Ok (pgm_from size (length (plain_header size)))
+    (pgm_of (plain_header size ++ (pixels ++ more)) ≡ Ok (pgm_from size (length (plain_header size))))
+    × ((pgm_from size (length (plain_header size))).start ≡ length (plain_header size))
+    × ((pgm_from size (length (plain_header size))).end ≡ length (plain_header size) + length pixels)
 
 -- AND IN A FILE OF PICTURES OF ITS SIZE IT IS FOUND there, and the next begins where its pixels end.
 abbrev pub PlainPictureLocated : Type 0
 PlainPictureLocated = (size : Size) (pixels more : List ℕ) → 0 < size.width → size.width < 2 ^ 16 → 0 < size.height → size.height < 2 ^ 16 → length pixels ≡ pixel_count size →
-    located (Pictures size) (plain_header size ++ (pixels ++ more))
-    ≡ Ok (picture_from (length (plain_header size)) (length pixels) 0)
+    (located (Pictures size) (plain_header size ++ (pixels ++ more)) ≡ Ok (picture_from (length (plain_header size)) (length pixels) 0))
+    × ((picture_from (length (plain_header size)) (length pixels) 0).start ≡ length (plain_header size))
+    × ((picture_from (length (plain_header size)) (length pixels) 0).end ≡ length (plain_header size) + length pixels)
+    × ((picture_from (length (plain_header size)) (length pixels) 0).next ≡ length (plain_header size) + length pixels)
 
 -- A LINE IS ITS WORDS WITH A SPACE BETWEEN EACH TWO, and no word has a space, since it is cut at every one.
 pub record CutAtSpaces : Type 0 where
@@ -64,13 +67,17 @@ pub record Examples : Type 0 where
   pub frame : frame_line (codes "FRAME Ip") ≡ true
   pub no_frame : frame_line (codes "FRAMES") ≡ false
   pub picture : pgm_of (codes "P5\n# 2 by 1\n2 1\n255\nab") ≡ Ok (pgm_from (record { width = 2; height = 1 }) 20)
+  pub picture_size : (pgm_from (record { width = 2; height = 1 }) 20).size ≡ record { width = 2; height = 1 }
+  pub picture_place : ((pgm_from (record { width = 2; height = 1 }) 20).start ≡ 20) × ((pgm_from (record { width = 2; height = 1 }) 20).end ≡ 22)
   pub two_pictures : pgm_of (codes "P5 2 1 255 abP5 1 1 255 c") ≡ Ok (pgm_from (record { width = 2; height = 1 }) 11)
+  pub first_place : ((pgm_from (record { width = 2; height = 1 }) 11).start ≡ 11) × ((pgm_from (record { width = 2; height = 1 }) 11).end ≡ 13)
   pub cut_short : pgm_of (codes "P5 2 1 255 a") ≡ fault_at CutShort 12
   pub cut_short_located : located (Pictures (record { width = 2; height = 1 })) (codes "P5 2 1 255 a") ≡ fault_at CutShort 12
   pub other_size : located (Pictures (record { width = 2; height = 1 })) (codes "P5 1 1 255 a") ≡ fault_at OtherSize 0
   pub stream : y4m_opening (codes "YUV4MPEG2 W2 H1 Cmono\nFRAME\nab") ≡ Ok (record { layout = Frames (record { size = record { width = 2; height = 1 }; chroma = 0 }); start = 22 })
   pub unended : y4m_opening (codes "YUV4MPEG2 W2 H1") ≡ fault_at NoLineEnd 15
   pub grey_frame : located (Frames (record { size = record { width = 2; height = 1 }; chroma = 2 })) (codes "FRAME\nabuvFRAME\n") ≡ Ok (picture_from 6 2 2)
+  pub frame_place : ((picture_from 6 2 2).start ≡ 6) × ((picture_from 6 2 2).end ≡ 8) × ((picture_from 6 2 2).next ≡ 10)
   pub cut_frame : located (Frames (record { size = record { width = 2; height = 1 }; chroma = 2 })) (codes "FRAME\nabu") ≡ fault_at CutShort 9
   pub other_line : located (Frames (record { size = record { width = 2; height = 1 }; chroma = 0 })) (codes "FRAM\nab") ≡ fault_at NoFrame 0
   pub y4m_form : form_of (codes "YUV4MPEG2 W2") ≡ Y4m

@@ -7,7 +7,7 @@ mod view;
 mod wish;
 
 use console::{Input, PacketSource, Refusal, Source};
-use frame::{Format, Frame, FrameHeader, Packet};
+use frame::Format;
 use std::alloc::Global;
 use std::process::ExitCode;
 use stream::Screen;
@@ -52,12 +52,7 @@ fn play_binary(rt: &HostRuntime, source: Source, wish: &Wish) -> Result<(), Refu
     let mut screen = Screen::new(format);
     let mut view = View::new(rt, format, wish)?;
     while let Some(head) = packets.next()? {
-        let frame = Frame {
-            header: FrameHeader { key: head.key },
-            bytes: packets.frame(),
-        };
-        let number = head.number;
-        screen.receive(Packet { number, frame })?;
+        screen.receive(head.with_bytes(packets.frame()))?;
         view.show(rt, &screen)?;
     }
     Ok(())

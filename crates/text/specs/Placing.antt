@@ -5,8 +5,6 @@ use Rattle.frame.specs.declared.format.Format.{Format}
 use Rattle.frame.specs.declared.rejection.Rejection.{Rejection}
 use Rattle.frame.specs.declared.rejection.Rejection.TheVariants.{BadText, BlockCount, BufferTooShort, PacketCut, PictureLength, SourceLength, StepRange}
 use Rattle.frame.specs.declared.header.VideoHeader.{VideoHeader}
-use Rattle.text.specs.declared.error.PacketError.{PacketError}
-use Rattle.text.specs.declared.error.PacketError.TheVariants.{Rejected, OutOfMemory}
 
 -- a line that says no header is rejected as such, and else the format if it is none
 abbrev pub FormatLine : Result VideoHeader Rejection → Result Format Rejection → Type 0
@@ -22,8 +20,3 @@ placed_at offset (PictureLength p) = PictureLength p
 placed_at offset (SourceLength n) = SourceLength n
 placed_at offset (BufferTooShort n) = BufferTooShort n
 placed_at offset (PacketCut n) = PacketCut n
-
--- the same of the rejection in an error
-abbrev pub error_placed_at : (offset : ℕ) → PacketError → PacketError
-error_placed_at offset (Rejected e) = Rejected (placed_at offset e)
-error_placed_at offset OutOfMemory = OutOfMemory

@@ -1,9 +1,8 @@
 // What programs that read a text line by line need besides the lines.
-ghost use Rattle.text.specs.Placing.{FormatLine, error_placed_at, placed_at};
+ghost use Rattle.text.specs.Placing.{FormatLine, placed_at};
 ghost use Rattle.text.specs.Text.{header_of};
 ghost use Rattle.std.specs.Prelude.{◌≡◌};
 
-use crate::error::PacketError;
 use crate::parsing::parse_header;
 use frame::{Format, Rejection};
 
@@ -21,17 +20,5 @@ pub fn placed(rejection: Rejection, offset: u64) -> Rejection
     match rejection {
         Rejection::BadText(position) => Rejection::BadText(position.saturating_add(offset)),
         other => other,
-    }
-}
-
-impl PacketError {
-    // The same of a rejection that a packet's line is the reason of.
-    pub fn placed(self, offset: u64) -> PacketError
-        ensures { result ≡ error_placed_at offset self }
-    {
-        match self {
-            PacketError::Rejected(rejection) => PacketError::Rejected(placed(rejection, offset)),
-            PacketError::OutOfMemory => PacketError::OutOfMemory,
-        }
     }
 }
