@@ -1,14 +1,9 @@
 -- A line is cut into words: spaces before a word change nothing, and any other byte belongs to the word.
-use Rattle.std.proofs.Common.{◌≡◌, ℕ, suc, ◌+◌, ◌-◌, ◌<◌, ◌≤◌, ◌⊎◌, Bor, List, [], ◌∷◌, ◌++◌, length, Some, None, Option, sym, refl, ap, ◌∙◌, add-one, add-zero, append_assoc, append-nil, inl, inr, arith}
-use Rattle.std.proofs.ByRecursion.{All-from_get_or}
-use Rattle.std.proofs.lemmas.Bool.{cases_lt, eq-eqb, ne_eqb}
-use Rattle.std.proofs.lemmas.List.{length-append, nil_from_length}
-use Rattle.std.proofs.lemmas.Str.{len_utf8_ascii}
-use Rattle.std.proofs.lemmas.Str.Pattern.{IsSplitOnceResult, drop_at_char, split_parts}
-use Rattle.std.specs.List.{AllByRecursion}
-use Rattle.std.specs.Option.{unwrap_or}
-use Rattle.std.specs.Str.Pattern.{CutsPrefixes, FindsCharPrefix, IsFullyTrimmed, IsTrimStartMatches}
-use Rattle.text.specs.Line.{Words, end, word, closed, words_from, bytes_of, position, rest}
+use Rattle.std.proofs.Common.{◌≡◌, ℕ, suc, ◌+◌, ◌-◌, ◌<◌, ◌≤◌, ◌⊎◌, Bool, true, false, not, cond, eqb, List, [], ◌∷◌, ◌++◌, length, take, drop, get_or, sym, refl, ap, ◌∙◌, subst, add-one, add-zero, append_assoc, append-nil, inl, inr, arith}
+use Rattle.std.proofs.lemmas.Bool.{cases_lt, eq-eqb, eqb-true, false≢true, ne_eqb}
+use Rattle.std.proofs.lemmas.List.{length-append, length-drop, nil_from_length, take-append-drop}
+use Rattle.std.specs.List.{AllByRecursion, prefix_len}
+use Rattle.text.specs.Line.{Words, end, word, closed, words_from, bytes_of, is_space, not_space, position, rest}
 
 pub at_space : (bytes : List ℕ) (n c : ℕ) (cs : List ℕ) → c ≡ 32 → words_from bytes n (c ∷ cs) ≡ closed bytes n (words_from [] (n + 1) cs)
 unfolding words_from
@@ -48,18 +43,55 @@ past_space n r h =
     let e : n - suc (length r) + 1 ≡ n - length r = omega arith in
     at_space [] (n - suc (length r)) 32 r refl ∙ ap (λ m. words_from [] m r) e
 
-past_spaces : (n : ℕ) (ns s r : List ℕ) → CutsPrefixes (FindsCharPrefix 32) s ns r → length s ≤ n → (last_words n s ≡ last_words n r) × (length r ≤ n)
-past_spaces n [] s r e h = rw e (refl, h)
-past_spaces n (k ∷ ns) s r c h =
-    let i = past_spaces n ns s c.0 c.1 h in
-    let d : c.0 ≡ 32 ∷ r = drop_at_char 32 c.0 0 k c.2 (omega arith) ∙ ap (λ t. 32 ∷ t) (sym c.3) in
-    let l : suc (length r) ≤ n = omega (arith, ap length d, i.1) in
-    (i.0 ∙ ap (last_words n) d ∙ past_space n r l, omega arith)
+-- what is left of bytes after the spaces before them
+abbrev pub unspaced : List ℕ → List ℕ
+unspaced s = drop (prefix_len is_space s) s
 
-no_space : (r : List ℕ) → IsFullyTrimmed (FindsCharPrefix 32) r → (t : List ℕ) → r ≡ 32 ∷ t → ⊥
-unfolding lib.Utf8.encode
-no_space r (None, f, z) t e = f t e
-no_space r (Some n, f, z) t e = omega (arith, f.ends, z, len_utf8_ascii 32 (omega arith))
+one_more : (k : ℕ) → 1 + k ≡ suc k
+one_more k = omega arith
+
+drop_more : (k c : ℕ) (cs : List ℕ) → drop (1 + k) (c ∷ cs) ≡ drop k cs
+drop_more k c cs = ap (λ m. drop m (c ∷ cs)) (one_more k)
+
+take_more : (k c : ℕ) (cs : List ℕ) → take (1 + k) (c ∷ cs) ≡ c ∷ take k cs
+take_more k c cs = ap (λ m. take m (c ∷ cs)) (one_more k)
+
+past_by : (n c : ℕ) (cs : List ℕ) (b : Bool) → eqb c 32 ≡ b → suc (length cs) ≤ n → last_words n cs ≡ last_words n (unspaced cs) →
+    last_words n (c ∷ cs) ≡ last_words n (drop (cond b (1 + prefix_len is_space cs) 0) (c ∷ cs))
+past_by n c cs true e h further =
+    ap (λ d. last_words n (d ∷ cs)) (eqb-true c 32 e) ∙ past_space n cs h ∙ further ∙ ap (last_words n) (sym (drop_more (prefix_len is_space cs) c cs))
+past_by n c cs false e h further = refl
+
+past_spaces : (n : ℕ) (s : List ℕ) → length s ≤ n → last_words n s ≡ last_words n (unspaced s)
+past_spaces n [] h = refl
+past_spaces n (c ∷ cs) h = past_by n c cs _ refl h (past_spaces n cs (omega arith))
+
+no_space_by : (c : ℕ) (cs t : List ℕ) (b : Bool) → eqb c 32 ≡ b → ((u : List ℕ) → unspaced cs ≡ 32 ∷ u → ⊥) →
+    drop (cond b (1 + prefix_len is_space cs) 0) (c ∷ cs) ≡ 32 ∷ t → ⊥
+no_space_by c cs t true e further d = further t (sym (drop_more (prefix_len is_space cs) c cs) ∙ d)
+no_space_by c cs t false e further d = let same : c ≡ 32 = ap (λ l. get_or l 0 0) d in absurd (false≢true (sym e ∙ eq-eqb c 32 same))
+
+no_space : (s t : List ℕ) → unspaced s ≡ 32 ∷ t → ⊥
+no_space [] t d = let none : 0 ≡ suc (length t) = ap length d in omega arith
+no_space (c ∷ cs) t d = no_space_by c cs t _ refl (no_space cs) d
+
+-- A WORD ENDS at the first space, or with the bytes
+abbrev pub at_stop : List ℕ → Type 0
+at_stop t = (t ≡ []) ⊎ (u : List ℕ) × (t ≡ 32 ∷ u)
+
+abbrev pub Stopped : (count : ℕ) → List ℕ → Type 0
+Stopped k line = Spaceless (take k line) × at_stop (drop k line)
+
+stopped_by : (c : ℕ) (cs : List ℕ) (b : Bool) → eqb c 32 ≡ b → Stopped (prefix_len not_space cs) cs → Stopped (cond (not b) (1 + prefix_len not_space cs) 0) (c ∷ cs)
+stopped_by c cs true e further = (tt, inr (cs, ap (λ d. d ∷ cs) (eqb-true c 32 e)))
+stopped_by c cs false e further =
+    let k = prefix_len not_space cs in
+    let plain : Spaceless (c ∷ take k cs) = ((λ same. false≢true (sym e ∙ eq-eqb c 32 same)), further.0) in
+    (subst Spaceless (sym (take_more k c cs)) plain, subst at_stop (sym (drop_more k c cs)) further.1)
+
+stopped : (line : List ℕ) → Stopped (prefix_len not_space line) line
+stopped [] = (tt, inl refl)
+stopped (c ∷ cs) = stopped_by c cs _ refl (stopped cs)
 
 -- THE NEXT WORD
 pub record Next (n : ℕ) (line text after : List ℕ) (ws : Words) : Type 0 where
@@ -103,20 +135,32 @@ module _ (n : ℕ) (line : List ℕ) (within : length line ≤ n) where
           let start : n - length line ≡ n = omega arith in
           record { position = start ∙ sym (ap position is_end); bytes = empty ∙ sym (ap bytes_of is_end); rest = none_left ∙ sym (ap rest is_end) }
 
-pub next : (n : ℕ) (s line : List ℕ) (r : Option (Bor (List ℕ) × Bor (List ℕ))) (d p : Bor (List ℕ) × Bor (List ℕ)) → length s ≤ n
-    → IsTrimStartMatches (FindsCharPrefix 32) s line → IsSplitOnceResult 32 line r → p ≡ unwrap_or r d → d.0.now ≡ line → d.1.now ≡ []
-    → Next n line p.0.now p.1.now (last_words n s)
-next n s line (Some x) d p l t h u e f =
-    let spaces = past_spaces n t.0.0 s line t.0.1 l in
-    let parts = split_parts 32 line (Some x) h (omega arith) in
-    let plain : Spaceless x.0.now = All-from_get_or (λ c. c ≡ 32 → ⊥) x.0.now 0 parts.1 in
-    elim (cases_lt 0 (length x.0.now)) [
-      | inl some ↦ rw (spaces.0, u) (to_space n line spaces.1 x.0.now x.1.now parts.0 some plain)
-      | inr none ↦
-          let empty : x.0.now ≡ [] = nil_from_length x.0.now (omega arith) in
-          absurd (no_space line t.1 x.1.now (parts.0 ∙ ap (λ bs. bs ++ 32 ∷ x.1.now) empty))
+-- AFTER THE SPACES STANDS THE NEXT WORD, up to the first space: it is what is taken, and nothing is at the line's end.
+cut_next : (n : ℕ) (s line : List ℕ) → line ≡ unspaced s → length line ≤ n → (k : ℕ) → Stopped k line → Next n line (take k line) (drop k line) (last_words n line)
+cut_next n s line is within k cut =
+    let parts : take k line ++ drop k line ≡ line = take-append-drop k line in
+    elim cut.1 [
+      | inl none ↦
+          let whole : take k line ≡ line = sym (append-nil (take k line)) ∙ ap (λ t. take k line ++ t) (sym none) ∙ parts in
+          rw (whole, none) (to_end n line within (subst Spaceless whole cut.0))
+      | inr (u, space) ↦
+          let is_cut : line ≡ take k line ++ 32 ∷ u = sym parts ∙ ap (λ t. take k line ++ t) space in
+          elim (cases_lt 0 (length (take k line))) [
+            | inl some ↦
+                let long : length line ≡ length (take k line) + suc (length u) = ap length is_cut ∙ length-append (take k line) (32 ∷ u) in
+                let after : last_words n (drop k line) ≡ last_words n u = ap (last_words n) space ∙ past_space n u (omega arith) in
+                let found = to_space n line within (take k line) u is_cut some cut.0 in
+                record { position = found.position; bytes = found.bytes; rest = after ∙ found.rest }
+            | inr none ↦
+                let empty : take k line ≡ [] = nil_from_length (take k line) (omega arith) in
+                absurd (no_space s u (sym is ∙ is_cut ∙ ap (λ w. w ++ 32 ∷ u) empty))
+          ]
     ]
-next n s line None d p l t h u e f =
-    let spaces = past_spaces n t.0.0 s line t.0.1 l in
-    let plain : Spaceless line = All-from_get_or (λ c. c ≡ 32 → ⊥) line 0 (split_parts 32 line None h (omega arith)) in
-    rw (spaces.0, u, e, f) (to_end n line spaces.1 plain)
+
+pub next : (n : ℕ) (s line text after : List ℕ) (spaces letters : ℕ) → length s ≤ n → spaces ≡ prefix_len is_space s → line ≡ drop spaces s
+    → letters ≡ prefix_len not_space line → text ≡ take letters line → after ≡ drop letters line → Next n line text after (last_words n s)
+next n s line text after spaces letters l a is b t u =
+    let left : line ≡ unspaced s = is ∙ ap (λ k. drop k s) a in
+    let shorter : length line ≤ n = omega (arith, ap length left, length-drop (prefix_len is_space s) s) in
+    let same : last_words n line ≡ last_words n s = ap (last_words n) left ∙ sym (past_spaces n s l) in
+    rw (t, u, b) (subst (Next n line _ _) same (cut_next n s line left shorter _ (stopped line)))

@@ -1,65 +1,65 @@
--- A number's digits: what the library's `parse` says of them, in the words of the text forms.
-use Rattle.std.proofs.Common.{◌≡◌, ℕ, ◌^◌, ◌<◌, true, false, cond, ◌&&◌, ltb, leb, List, [], ◌∷◌, length, Some, None, Ok, Err, Bor, Option, Result, MatchResult, refl, ap, ◌∙◌, IsUtf8, inl, inr, arith, rules}
-use Rattle.std.proofs.ByRecursion.{IsAscii-from_all}
-use Rattle.std.proofs.lemmas.Bool.{and_left, and_parts, and_right, cases_lt, cond-false, le-ltb, leb-true, lt-leb, lt-ltb}
-use Rattle.std.proofs.lemmas.Str.{IsUtf8-from_ascii}
-use Rattle.std.proofs.lemmas.Str.Parse.{IsNumeralModel, numerals_by_fold, parse_digits}
+-- A number is read digit by digit, and never falls on the way: where it has passed 2^64 it stays above every limit.
+use Rattle.std.proofs.Common.{rules, ◌≡◌, ℕ, ◌+◌, ◌-◌, ◌*◌, ◌^◌, ◌<◌, ◌≤◌, Bool, true, false, cond, ◌&&◌, ltb, leb, List, [], ◌∷◌, length, get_or, drop, Some, None, Option, sym, refl, ap, ◌∙◌, arith}
+use Rattle.std.proofs.lemmas.List.{drop_all, drop_more}
+use Rattle.std.proofs.lemmas.Bool.{and_left, and_right, cond-false, cond-true, le-leb, lt-leb, lt-ltb, ltb-false}
+use Rattle.std.proofs.lemmas.Str.Parse.{IsNumeralModel, numerals_by_fold}
 use Rattle.std.specs.Char.{is_ascii_digit}
-use Rattle.std.specs.List.{AllByRecursion, list_all}
 use Rattle.std.specs.Str.{all_ascii_digits}
-use Rattle.std.specs.Result.{result_ok}
-use Rattle.std.specs.Str.Parse.{ParsesUnsigned}
-use Rattle.text.specs.Line.{number_of, value, value_after}
+use Rattle.text.specs.Line.{number_of, value_after}
 
+-- what the library says of numerals, in the words of the text forms
 pub own : IsNumeralModel (λ ds. all_ascii_digits ds ≡ true) (value_after 0)
 own = numerals_by_fold _ (search rules) value_after (search rules)
 
-pub digits_each : (bs : List ℕ) → list_all is_ascii_digit bs ≡ all_ascii_digits bs
-digits_each [] = refl
-digits_each (c ∷ cs) = ap (λ b. is_ascii_digit c && b) (digits_each cs)
+-- what is left of a word, after digits that write v
+abbrev pub finish : (limit v : ℕ) → List ℕ → Option ℕ
+finish limit v cs = cond (all_ascii_digits cs && leb (value_after v cs) limit) (Some (value_after v cs)) None
 
-below_128 : (bs : List ℕ) → all_ascii_digits bs ≡ true → AllByRecursion (λ b. b < 128) bs
-below_128 [] h = tt
-below_128 (c ∷ cs) h =
-    let parts = and_parts (is_ascii_digit c) (all_ascii_digits cs) h in
-    let low = leb-true c 57 (and_parts (leb 48 c) (leb c 57) parts.0).1 in
-    (omega arith, below_128 cs parts.1)
+abbrev pub pushed : (v c : ℕ) → Option ℕ
+pushed v c = cond (is_ascii_digit c && ltb (v * 10 + (c - 48)) (2 ^ 64)) (Some (v * 10 + (c - 48))) None
 
-pub digits_text : (bs : List ℕ) → all_ascii_digits bs ≡ true → IsUtf8 bs
-digits_text bs h = IsUtf8-from_ascii bs (IsAscii-from_all bs (below_128 bs h))
+value_rises : (v : ℕ) (cs : List ℕ) → v ≤ value_after v cs
+value_rises v [] = omega arith
+value_rises v (c ∷ cs) = omega (arith, value_rises (v * 10 + (c - 48)) cs)
 
-pub no_digits : (limit : ℕ) (bs : List ℕ) → all_ascii_digits bs ≡ false → number_of limit bs ≡ None
+pub number_none : (limit : ℕ) (word : List ℕ) → length word ≡ 0 → number_of limit word ≡ None
 unfolding number_of
-no_digits limit bs h = cond-false _ _ _ (and_right (ltb 0 (length bs)) _ (and_left (all_ascii_digits bs) _ h))
+number_none limit [] e = refl
+number_none limit (c ∷ cs) e = absurd (omega arith)
 
--- a number that was parsed, if it is within the limit
-abbrev pub within : (limit : ℕ) → Option ℕ → Option ℕ
-within limit (Some n) = cond (leb n limit) (Some n) None
-within limit None = None
-
-pub parsed : {E : Type 0} (limit : ℕ) (bs : List ℕ) (r : Result ℕ E) → limit < 2 ^ 64 → all_ascii_digits bs ≡ true → ParsesUnsigned 64 10 bs r → number_of limit bs ≡ within limit (result_ok r)
+pub number_some : (limit : ℕ) (word : List ℕ) → 0 < length word → number_of limit word ≡ finish limit 0 word
 unfolding number_of
-parsed {E} limit bs (Ok n) l d p =
-    let o = parse_digits own {E = E} 64 bs (Ok n) p d in
-    rw (lt-ltb 0 (length bs) o.0.0, d, o.1) refl
-parsed {E} limit bs (Err e) l d p =
-    let o = parse_digits own {E = E} 64 bs (Err e) p d in
-    elim (cases_lt limit (value bs)) [
-      | inl above ↦ cond-false _ _ _ (and_right (ltb 0 (length bs)) _ (and_right (all_ascii_digits bs) _ (lt-leb (value bs) limit above)))
-      | inr small ↦ elim (cases_lt 0 (length bs)) [
-        | inl some ↦ absurd (o (some, omega arith))
-        | inr none ↦ cond-false _ _ _ (and_left (ltb 0 (length bs)) _ (le-ltb 0 (length bs) none))
-      ]
-    ]
+number_some limit word h = rw (lt-ltb 0 (length word) h)
 
--- bytes that are text, as it is lent
-abbrev pub IsText : {E : Type 0} → (E → Type 0) → List ℕ → Result (Bor (List ℕ)) E → Type 0
-IsText Q bs r = MatchResult r (λ s. (s.now ≡ bs) × IsUtf8 bs) (λ e. (IsUtf8 bs → ⊥) × Q e)
+-- nothing, or what a function makes of a value
+abbrev pub followed : {A B : Type 0} → Option A → (A → Option B) → Option B
+followed None f = None
+followed (Some x) f = f x
 
-pub same_text : {E : Type 0} (Q : E → Type 0) (bs : List ℕ) (r : Result (Bor (List ℕ)) E) (t : Bor (List ℕ)) → IsText Q bs r → Some t ≡ result_ok r → t.now ≡ bs
-same_text Q bs (Ok s) t m e = let k : t ≡ s = cc in ap (λ (b : Bor (List ℕ)). b.now) k ∙ m.0
-same_text Q bs (Err f) t m e = absurd (let z : ◌≡◌ {A = ℕ} 0 1 = cc in (let f : ⊥ = omega arith in f))
+by_tests : (limit v c : ℕ) (cs : List ℕ) (digit small : Bool) → limit < 2 ^ 64 → is_ascii_digit c ≡ digit → ltb (v * 10 + (c - 48)) (2 ^ 64) ≡ small →
+    finish limit v (c ∷ cs) ≡ followed (cond (digit && small) (Some (v * 10 + (c - 48))) None) (λ n. finish limit n cs)
+by_tests limit v c cs false small l d s = cond-false _ _ _ (and_left _ _ (and_left _ _ d))
+by_tests limit v c cs true true l d s = ap (λ b. cond (b && all_ascii_digits cs && leb (value_after (v * 10 + (c - 48)) cs) limit) (Some (value_after (v * 10 + (c - 48)) cs)) None) d
+by_tests limit v c cs true false l d s = cond-false _ _ _ (and_right _ _ (lt-leb (value_after (v * 10 + (c - 48)) cs) limit (omega (arith, value_rises (v * 10 + (c - 48)) cs, ltb-false _ _ s))))
 
-pub always_text : {E : Type 0} (Q : E → Type 0) (bs : List ℕ) (r : Result (Bor (List ℕ)) E) → IsText Q bs r → None ≡ result_ok r → all_ascii_digits bs ≡ true → ⊥
-always_text Q bs (Ok s) m e d = let z : ◌≡◌ {A = ℕ} 0 1 = cc in omega arith
-always_text Q bs (Err f) m e d = m.0 (digits_text bs d)
+-- A BYTE MORE IS A DIGIT MORE: where it is none, or the number passes 2^64, the word is no number within the limit.
+pub finish_more : (limit v c : ℕ) (cs : List ℕ) → limit < 2 ^ 64 → finish limit v (c ∷ cs) ≡ followed (pushed v c) (λ n. finish limit n cs)
+finish_more limit v c cs l = by_tests limit v c cs _ _ l refl refl
+
+-- the same at an index of the word, after what a loop's turn pushed
+module _ (limit v i : ℕ) (word : List ℕ) (l : limit < 2 ^ 64) (inside : i < length word) where
+  turn : finish limit v (drop i word) ≡ followed (pushed v (get_or word i 0)) (λ n. finish limit n (drop (i + 1) word))
+  turn = ap (finish limit v) (drop_more word i 0 inside) ∙ finish_more limit v (get_or word i 0) (drop (i + 1) word) l
+
+  pub turn_some : (n : ℕ) → Some n ≡ pushed v (get_or word i 0) → finish limit v (drop i word) ≡ finish limit n (drop (i + 1) word)
+  turn_some n e = turn ∙ ap (λ o. followed o (λ m. finish limit m (drop (i + 1) word))) (sym e)
+
+  pub turn_none : None ≡ pushed v (get_or word i 0) → finish limit v (drop i word) ≡ None
+  turn_none e = turn ∙ ap (λ o. followed o (λ m. finish limit m (drop (i + 1) word))) (sym e)
+
+module _ (limit v i : ℕ) (word : List ℕ) (l : length word ≤ i) where
+  pub end_within : v ≤ limit → finish limit v (drop i word) ≡ Some v
+  end_within h = ap (finish limit v) (drop_all i word l) ∙ cond-true _ _ _ (le-leb v limit h)
+
+  pub end_above : limit < v → finish limit v (drop i word) ≡ None
+  end_above h = ap (finish limit v) (drop_all i word l) ∙ cond-false _ _ _ (lt-leb v limit h)

@@ -1,17 +1,34 @@
 // The steps of a reader: a number, a keyword, the end of the line. What is rejected is rejected at the word's position.
-ghost use Rattle.std.specs.Prelude.{◌≡◌, if◌then◌else◌};
-ghost use Rattle.text.specs.Line.{answered, at_end, bytes_of, left, next_is, next_keyword, next_number, no_more, position, rest, words};
+ghost use Rattle.std.specs.Prelude.{◌≡◌, ◌≤◌, length, if◌then◌else◌};
+ghost use Rattle.std.specs.List.{prefix_len};
+ghost use Rattle.text.specs.Line.{is_space, not_space, answered, at_end, bytes_of, left, next_is, next_keyword, next_number, no_more, position, rest, words};
 
 use crate::number::parse_number;
 use crate::reader::{LineReader, Word};
 use frame::Rejection;
+
+// How many spaces come first.
+fn space_count(bytes: &[u8]) -> usize
+    ensures value { result ≡ prefix_len is_space bytes.now }
+    ensures within { result ≤ length bytes.now }
+{
+    bytes.iter().take_while(|byte| **byte == b' ').count()
+}
+
+// How many bytes come before the first space.
+fn word_length(bytes: &[u8]) -> usize
+    ensures value { result ≡ prefix_len not_space bytes.now }
+    ensures within { result ≤ length bytes.now }
+{
+    bytes.iter().take_while(|byte| **byte != b' ').count()
+}
 
 impl<'a> LineReader<'a> {
     pub(crate) fn new(line: &'a str) -> LineReader<'a>
         ensures { left result ≡ words line.now }
     {
         LineReader {
-            rest: line,
+            rest: line.as_bytes(),
             end: line.len(),
         }
     }
@@ -22,8 +39,9 @@ impl<'a> LineReader<'a> {
         ensures bytes { result.text.now ≡ bytes_of (left self.old) }
         ensures rest { left self.new ≡ rest (left self.old) }
     {
-        let line = self.rest.trim_start_matches(' ');
-        let (text, rest) = line.split_once(' ').unwrap_or((line, ""));
+        // Bytes, each looked at once: a search of the text, and a text made of each word, take twice as long.
+        let (_, line) = self.rest.split_at(space_count(self.rest));
+        let (text, rest) = line.split_at(word_length(line));
         self.rest = rest;
         Word {
             position: (self.end - line.len()) as u64,
@@ -36,7 +54,7 @@ impl<'a> LineReader<'a> {
         ensures { next_number limit (left self.old) ≡ answered result (left self.new) }
     {
         let word = self.next_word();
-        parse_number(word.text.as_bytes(), limit).ok_or(Rejection::BadText(word.position))
+        parse_number(word.text, limit).ok_or(Rejection::BadText(word.position))
     }
 
     // The next word as a pixel, or as one of a frame's bytes.
@@ -51,7 +69,7 @@ impl<'a> LineReader<'a> {
         ensures { next_keyword keyword.now (left self.old) ≡ answered result (left self.new) }
     {
         let word = self.next_word();
-        if word.text == keyword {
+        if word.text == keyword.as_bytes() {
             Ok(())
         } else {
             Err(Rejection::BadText(word.position))

@@ -3,8 +3,8 @@ ghost use Rattle.std.specs.Prelude.{◌≤◌, length};
 // A line of words between spaces, which is read from left to right.
 #[derive(Clone, Copy)]
 pub(crate) struct LineReader<'a> {
-    // What is left to read.
-    pub(crate) rest: &'a str,
+    // The bytes that are left to read.
+    pub(crate) rest: &'a [u8],
     // How long the whole line is.
     pub(crate) end: usize,
     ghost within: { length rest.now ≤ end },
@@ -14,5 +14,5 @@ pub(crate) struct LineReader<'a> {
 #[derive(Clone, Copy)]
 pub(crate) struct Word<'a> {
     pub(crate) position: u64,
-    pub(crate) text: &'a str,
+    pub(crate) text: &'a [u8],
 }
