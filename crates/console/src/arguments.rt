@@ -10,15 +10,15 @@ use std::env;
 use std::env::Args;
 
 #[derive(Drop)]
-pub struct Arguments {
+pub struct Arguments<'a> {
     // The program's name, for what is said of its words.
-    program: &'static str,
+    program: &'a str,
     words: Args,
     heap: Global,
 }
 
-impl Arguments {
-    pub fn new(rt: &HostRuntime, program: &'static str) -> Result<Arguments, Refusal> {
+impl<'a> Arguments<'a> {
+    pub fn new(rt: &HostRuntime, program: &'a str) -> Result<Arguments<'a>, Refusal> {
         let mut words = env::args(rt)?;
         let _ = words.next();
         Ok(Arguments {
@@ -62,7 +62,7 @@ impl Arguments {
     }
 }
 
-impl Iterator for Arguments {
+impl<'a> Iterator for Arguments<'a> {
     type Item = String;
 
     ghost remaining = { λ arguments. at_most (words_left arguments) };

@@ -10,7 +10,7 @@ const FILE: &str = "/tmp/zukhtavo-console-lines";
 struct Anything;
 
 impl Wish for Anything {
-    fn take(&mut self, _word: String, _arguments: &mut Arguments) -> Result<(), Refusal> {
+    fn take(&mut self, _word: String, _arguments: &mut Arguments<'_>) -> Result<(), Refusal> {
         Ok(())
     }
 

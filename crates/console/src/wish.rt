@@ -10,7 +10,7 @@ pub trait Wish: Drop {
     ghost allowed: { Self → Type 0 } = { λ _. Unit {0} };
 
     // Takes a word, and of the words after it what belongs to it.
-    fn take(&mut self, word: String, arguments: &mut Arguments) -> Result<(), Refusal>
+    fn take(&mut self, word: String, arguments: &mut Arguments<'_>) -> Result<(), Refusal>
         ensures { words_left arguments.new ≤ words_left arguments.old };
 
     // Refuses what cannot be asked for together.
@@ -21,7 +21,7 @@ pub trait Wish: Drop {
 // What the words ask for, or nothing if one of them asks for help.
 pub fn read_wish<W: Wish>(
     rt: &HostRuntime,
-    program: &'static str,
+    program: &str,
     mut wish: W,
 ) -> Result<Option<W>, Refusal>
     ensures { IfOk result (λ read. IfSome read W.allowed) }

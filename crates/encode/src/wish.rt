@@ -14,7 +14,7 @@ pub struct Wish {
     pub file: Option<String>,
 }
 
-fn read_interval(arguments: &mut Arguments) -> Result<KeyInterval, Refusal>
+fn read_interval(arguments: &mut Arguments<'_>) -> Result<KeyInterval, Refusal>
     ensures { words_left arguments.new ≤ words_left arguments.old }
 {
     let interval = KeyInterval::new(arguments.number("--key")?);
@@ -22,7 +22,7 @@ fn read_interval(arguments: &mut Arguments) -> Result<KeyInterval, Refusal>
 }
 
 impl console::Wish for Wish {
-    fn take(&mut self, word: String, arguments: &mut Arguments) -> Result<(), Refusal> {
+    fn take(&mut self, word: String, arguments: &mut Arguments<'_>) -> Result<(), Refusal> {
         match word.as_str() {
             "--step" => self.step = Some(arguments.number("--step")?),
             "--key" => self.key = Some(read_interval(arguments)?),

@@ -15,7 +15,7 @@ pub struct Wish {
     pub rate: Option<FrameRate>,
 }
 
-fn read_rate(arguments: &mut Arguments) -> Result<FrameRate, Refusal>
+fn read_rate(arguments: &mut Arguments<'_>) -> Result<FrameRate, Refusal>
     ensures { words_left arguments.new ≤ words_left arguments.old }
 {
     let word = arguments.value("--rate")?;
@@ -38,7 +38,7 @@ impl console::Wish for Wish {
     // A rate is one of a stream.
     ghost allowed = { λ wish. IsSome wish.rate → IsSome wish.y4m };
 
-    fn take(&mut self, word: String, arguments: &mut Arguments) -> Result<(), Refusal> {
+    fn take(&mut self, word: String, arguments: &mut Arguments<'_>) -> Result<(), Refusal> {
         match word.as_str() {
             "show" => self.show = true,
             "--y4m" => self.y4m = Some(arguments.value("--y4m")?),

@@ -33,7 +33,7 @@ impl Wish {
 }
 
 impl console::Wish for Wish {
-    fn take(&mut self, word: String, arguments: &mut Arguments) -> Result<(), Refusal> {
+    fn take(&mut self, word: String, arguments: &mut Arguments<'_>) -> Result<(), Refusal> {
         match word.as_str() {
             "--binary" => self.binary = true,
             option if option.starts_with("--") => return Err(arguments.unknown_option(option)),
