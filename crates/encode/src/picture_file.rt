@@ -56,7 +56,7 @@ fn code_pictures(
 }
 
 // Codes the pictures of a file that begins as `read_opening` reads it.
-pub fn code<F: Fn(&[u8]) -> Result<Opening, PictureError>>(
+pub(crate) fn code<F: Fn(&[u8]) -> Result<Opening, PictureError>>(
     rt: &HostRuntime,
     source: &mut Source,
     wish: &Wish,

@@ -8,7 +8,7 @@ use pictures::PictureError;
 const LONGEST: usize = 65536;
 
 // What is made of the input's front, or why nothing is, with the position in the whole input.
-pub fn read_whole<T: Drop, F: FnMut(&[u8]) -> Result<T, PictureError>>(
+pub(crate) fn read_whole<T: Drop, F: FnMut(&[u8]) -> Result<T, PictureError>>(
     source: &mut Source,
     mut parse: F,
 ) -> Result<T, Refusal>

@@ -13,7 +13,7 @@ pub struct Group<'a> {
 }
 
 // Runs a group, and prints how many of its cases passed. What keeps it from going on is a case that fails.
-pub fn run<'a, F: FnOnce(&mut Group<'a>) -> Result<(), Failure>>(
+pub(crate) fn run<'a, F: FnOnce(&mut Group<'a>) -> Result<(), Failure>>(
     rt: &'a HostRuntime,
     name: &'a str,
     check: F,
