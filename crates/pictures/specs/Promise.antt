@@ -24,6 +24,7 @@ ReadsBack = (size : Size) (rate : FrameRate) → 0 < size.width → size.width <
 abbrev pub PlainPicture : Type 0
 PlainPicture = (size : Size) (pixels more : List ℕ) → 0 < size.width → size.width < 2 ^ 16 → 0 < size.height → size.height < 2 ^ 16 → length pixels ≡ pixel_count size →
     (pgm_of (plain_header size ++ (pixels ++ more)) ≡ Ok (pgm_from size (length (plain_header size))))
+    × ((pgm_from size (length (plain_header size))).size ≡ size)
     × ((pgm_from size (length (plain_header size))).start ≡ length (plain_header size))
     × ((pgm_from size (length (plain_header size))).end ≡ length (plain_header size) + length pixels)
 
