@@ -1,8 +1,8 @@
 // The words after a program's name.
-ghost use Rattle.std.specs.Prelude.{◌≤◌};
+ghost use Rattle.std.specs.Prelude.{◌≡◌, ◌≤◌, IfOk};
 ghost use Rattle.std.specs.Iterator.{at_most};
-ghost use Rattle.console.specs.Arguments.{words_left};
-ghost use Rattle.console.specs.Refusals.{IsSaid};
+ghost use Rattle.console.specs.Arguments.{unknown_text, words_left};
+ghost use Rattle.console.specs.Refusals.{Says};
 
 use crate::refusal::Refusal;
 use std::alloc::Global;
@@ -18,7 +18,9 @@ pub struct Arguments<'a> {
 }
 
 impl<'a> Arguments<'a> {
-    pub fn new(rt: &HostRuntime, program: &'a str) -> Result<Arguments<'a>, Refusal> {
+    pub fn new(rt: &HostRuntime, program: &'a str) -> Result<Arguments<'a>, Refusal>
+        ensures { IfOk result (λ arguments. arguments.program.now ≡ program.now) }
+    {
         let mut words = env::args(rt)?;
         let _ = words.next();
         Ok(Arguments {
@@ -53,7 +55,7 @@ impl<'a> Arguments<'a> {
 
     // What is said of a word that looks like an option and is none.
     pub fn unknown_option(&self, word: &str) -> Refusal
-        ensures { IsSaid result }
+        ensures { Says (unknown_text self.now.program.now word.now) result }
     {
         let program = self.program;
         Refusal::sentence(format!(in self.heap;

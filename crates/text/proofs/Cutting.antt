@@ -1,9 +1,13 @@
 -- A line is cut into words: spaces before a word change nothing, and any other byte belongs to the word.
-use Rattle.std.proofs.Common.{◌≡◌, ℕ, suc, ◌+◌, ◌-◌, ◌<◌, ◌≤◌, ◌⊎◌, Bool, true, false, not, cond, eqb, List, [], ◌∷◌, ◌++◌, length, take, drop, get_or, sym, refl, ap, ◌∙◌, subst, add-one, add-zero, append_assoc, append-nil, inl, inr, arith}
-use Rattle.std.proofs.lemmas.Bool.{cases_lt, eq-eqb, eqb-true, false≢true, ne_eqb}
-use Rattle.std.proofs.lemmas.List.{length-append, length-drop, nil_from_length, take-append-drop}
+use Rattle.std.proofs.Common.{◌≡◌, ℕ, zero, suc, ◌+◌, ◌-◌, ◌<◌, ◌≤◌, ◌⊎◌, Bool, not, eqb, List, [], ◌∷◌, ◌++◌, length, take, drop, get_or, sym, refl, ap, ◌∙◌, subst, add-one, add-zero, append_assoc, append-nil, inl, inr, arith}
+use Rattle.std.proofs.ByRecursion.{All-from_get_or}
+use Rattle.std.proofs.Math.Seq.{drop-cons}
+use Rattle.std.proofs.lemmas.Bool.{cases_lt, eq-eqb, eqb-false, eqb-true, ne_eqb, not-false, not-true}
+use Rattle.std.proofs.lemmas.List.Folds.{length-prefix_len}
+use Rattle.std.proofs.lemmas.List.Sums.{prefix_len-le-length, prefix_len_passes, prefix_len_stops}
+use Rattle.std.proofs.lemmas.List.{drop_all, get_or-take, length-append, length-drop, nil_from_length, take-append-drop}
 use Rattle.std.specs.List.{AllByRecursion, prefix_len}
-use Rattle.text.specs.Line.{Words, end, word, closed, words_from, bytes_of, is_space, not_space, position, rest}
+use Rattle.text.specs.Line.{Words, end, word, closed, words_from, bytes_of, position, rest}
 
 pub at_space : (bytes : List ℕ) (n c : ℕ) (cs : List ℕ) → c ≡ 32 → words_from bytes n (c ∷ cs) ≡ closed bytes n (words_from [] (n + 1) cs)
 unfolding words_from
@@ -43,55 +47,49 @@ past_space n r h =
     let e : n - suc (length r) + 1 ≡ n - length r = omega arith in
     at_space [] (n - suc (length r)) 32 r refl ∙ ap (λ m. words_from [] m r) e
 
+abbrev is_space : ℕ → Bool
+is_space c = eqb c 32
+
+abbrev is_letter : ℕ → Bool
+is_letter c = not (eqb c 32)
+
+passed : (n : ℕ) (s : List ℕ) (j : ℕ) → length s ≤ n → j ≤ prefix_len is_space s → last_words n s ≡ last_words n (drop j s)
+passed n s zero l h = refl
+passed n s (suc j) l h =
+    let inside : j < length s = omega (arith, h, prefix_len-le-length is_space s) in
+    let space : get_or s j 0 ≡ 32 = eqb-true _ 32 (prefix_len_passes is_space s j 0 (omega (arith, h))) in
+    let more : drop j s ≡ 32 ∷ drop (suc j) s = drop-cons s j 0 inside ∙ ap (λ c. c ∷ drop (suc j) s) space in
+    passed n s j l (omega (arith, h)) ∙ ap (last_words n) more ∙ past_space n (drop (suc j) s) (omega (arith, inside, l, length-drop (suc j) s))
+
 -- what is left of bytes after the spaces before them
-abbrev pub unspaced : List ℕ → List ℕ
+abbrev unspaced : List ℕ → List ℕ
 unspaced s = drop (prefix_len is_space s) s
 
-one_more : (k : ℕ) → 1 + k ≡ suc k
-one_more k = omega arith
-
-drop_more : (k c : ℕ) (cs : List ℕ) → drop (1 + k) (c ∷ cs) ≡ drop k cs
-drop_more k c cs = ap (λ m. drop m (c ∷ cs)) (one_more k)
-
-take_more : (k c : ℕ) (cs : List ℕ) → take (1 + k) (c ∷ cs) ≡ c ∷ take k cs
-take_more k c cs = ap (λ m. take m (c ∷ cs)) (one_more k)
-
-past_by : (n c : ℕ) (cs : List ℕ) (b : Bool) → eqb c 32 ≡ b → suc (length cs) ≤ n → last_words n cs ≡ last_words n (unspaced cs) →
-    last_words n (c ∷ cs) ≡ last_words n (drop (cond b (1 + prefix_len is_space cs) 0) (c ∷ cs))
-past_by n c cs true e h further =
-    ap (λ d. last_words n (d ∷ cs)) (eqb-true c 32 e) ∙ past_space n cs h ∙ further ∙ ap (last_words n) (sym (drop_more (prefix_len is_space cs) c cs))
-past_by n c cs false e h further = refl
-
-past_spaces : (n : ℕ) (s : List ℕ) → length s ≤ n → last_words n s ≡ last_words n (unspaced s)
-past_spaces n [] h = refl
-past_spaces n (c ∷ cs) h = past_by n c cs _ refl h (past_spaces n cs (omega arith))
-
-no_space_by : (c : ℕ) (cs t : List ℕ) (b : Bool) → eqb c 32 ≡ b → ((u : List ℕ) → unspaced cs ≡ 32 ∷ u → ⊥) →
-    drop (cond b (1 + prefix_len is_space cs) 0) (c ∷ cs) ≡ 32 ∷ t → ⊥
-no_space_by c cs t true e further d = further t (sym (drop_more (prefix_len is_space cs) c cs) ∙ d)
-no_space_by c cs t false e further d = let same : c ≡ 32 = ap (λ l. get_or l 0 0) d in absurd (false≢true (sym e ∙ eq-eqb c 32 same))
-
 no_space : (s t : List ℕ) → unspaced s ≡ 32 ∷ t → ⊥
-no_space [] t d = let none : 0 ≡ suc (length t) = ap length d in omega arith
-no_space (c ∷ cs) t d = no_space_by c cs t _ refl (no_space cs) d
+no_space s t e =
+    let k = prefix_len is_space s in
+    let inside : k < length s = omega (arith, ap length e, length-drop k s) in
+    let first : get_or s k 0 ≡ 32 = ap (λ l. get_or l 0 0) (sym (drop-cons s k 0 inside) ∙ e) in
+    eqb-false _ 32 (prefix_len_stops is_space s 0 inside) first
 
 -- A WORD ENDS at the first space, or with the bytes
-abbrev pub at_stop : List ℕ → Type 0
-at_stop t = (t ≡ []) ⊎ (u : List ℕ) × (t ≡ 32 ∷ u)
+abbrev Stopped : (count : ℕ) → List ℕ → Type 0
+Stopped k line = Spaceless (take k line) × ((drop k line ≡ []) ⊎ (u : List ℕ) × (drop k line ≡ 32 ∷ u))
 
-abbrev pub Stopped : (count : ℕ) → List ℕ → Type 0
-Stopped k line = Spaceless (take k line) × at_stop (drop k line)
-
-stopped_by : (c : ℕ) (cs : List ℕ) (b : Bool) → eqb c 32 ≡ b → Stopped (prefix_len not_space cs) cs → Stopped (cond (not b) (1 + prefix_len not_space cs) 0) (c ∷ cs)
-stopped_by c cs true e further = (tt, inr (cs, ap (λ d. d ∷ cs) (eqb-true c 32 e)))
-stopped_by c cs false e further =
-    let k = prefix_len not_space cs in
-    let plain : Spaceless (c ∷ take k cs) = ((λ same. false≢true (sym e ∙ eq-eqb c 32 same)), further.0) in
-    (subst Spaceless (sym (take_more k c cs)) plain, subst at_stop (sym (drop_more k c cs)) further.1)
-
-stopped : (line : List ℕ) → Stopped (prefix_len not_space line) line
-stopped [] = (tt, inl refl)
-stopped (c ∷ cs) = stopped_by c cs _ refl (stopped cs)
+stopped : (line : List ℕ) → Stopped (prefix_len is_letter line) line
+stopped line =
+    let k = prefix_len is_letter line in
+    let letters : Spaceless (take k line) =
+    All-from_get_or (λ c. c ≡ 32 → ⊥) (take k line) 0
+    (λ i h.
+    let before : i < k = omega (arith, h, length-prefix_len is_letter line) in
+    subst (λ c. c ≡ 32 → ⊥) (sym (get_or-take k line i 0 before)) (eqb-false _ 32 (not-true _ (prefix_len_passes is_letter line i 0 before)))) in (
+      letters,
+      elim (cases_lt k (length line)) [
+        | inl inside ↦ inr (drop (suc k) line, drop-cons line k 0 inside ∙ ap (λ c. c ∷ drop (suc k) line) (eqb-true _ 32 (not-false _ (prefix_len_stops is_letter line 0 inside))))
+        | inr over ↦ inl (drop_all k line over)
+      ],
+    )
 
 -- THE NEXT WORD
 pub record Next (n : ℕ) (line text after : List ℕ) (ws : Words) : Type 0 where
@@ -158,9 +156,9 @@ cut_next n s line is within k cut =
     ]
 
 pub next : (n : ℕ) (s line text after : List ℕ) (spaces letters : ℕ) → length s ≤ n → spaces ≡ prefix_len is_space s → line ≡ drop spaces s
-    → letters ≡ prefix_len not_space line → text ≡ take letters line → after ≡ drop letters line → Next n line text after (last_words n s)
+    → letters ≡ prefix_len is_letter line → text ≡ take letters line → after ≡ drop letters line → Next n line text after (last_words n s)
 next n s line text after spaces letters l a is b t u =
     let left : line ≡ unspaced s = is ∙ ap (λ k. drop k s) a in
     let shorter : length line ≤ n = omega (arith, ap length left, length-drop (prefix_len is_space s) s) in
-    let same : last_words n line ≡ last_words n s = ap (last_words n) left ∙ sym (past_spaces n s l) in
+    let same : last_words n line ≡ last_words n s = ap (last_words n) left ∙ sym (passed n s (prefix_len is_space s) l (omega arith)) in
     rw (t, u, b) (subst (Next n line _ _) same (cut_next n s line left shorter _ (stopped line)))

@@ -1,16 +1,9 @@
 -- A line of text: words between spaces, each with its offset. Assumes nothing: these are definitions.
-use Rattle.std.specs.Prelude.{ℕ, suc, ◌+◌, ◌-◌, ◌*◌, Bool, true, false, not, cond, ◌&&◌, List, [], ◌∷◌, ◌++◌, length, Some, None, Ok, Err, Option, Result, ◌==◌, nat_le, nat_lt}
+use Rattle.std.specs.Prelude.{ℕ, suc, ◌+◌, ◌-◌, ◌*◌, Bool, true, false, cond, ◌&&◌, List, [], ◌∷◌, ◌++◌, length, Some, None, Ok, Err, Option, Result, ◌==◌, nat_le, nat_lt}
 use Rattle.frame.specs.declared.rejection.Rejection.{Rejection}
 use Rattle.frame.specs.declared.rejection.Rejection.TheVariants.{BadText}
 use Rattle.std.specs.Str.{all_ascii_digits, bytes_eq}
 use Rattle.text.specs.declared.reader.LineReader.{LineReader}
-
--- what stands between words
-abbrev pub is_space : ℕ → Bool
-is_space c = c == 32
-
-abbrev pub not_space : ℕ → Bool
-not_space c = not (c == 32)
 
 -- a word's offset and bytes, and the words after it; the end of the line has an offset too, which is the line's length
 pub data Words : Type 0 where

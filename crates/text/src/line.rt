@@ -1,7 +1,7 @@
 // The steps of a reader: a number, a keyword, the end of the line. What is rejected is rejected at the word's position.
-ghost use Rattle.std.specs.Prelude.{◌≡◌, ◌≤◌, length, if◌then◌else◌};
+ghost use Rattle.std.specs.Prelude.{◌≡◌, ◌≤◌, ◌==◌, not, length, if◌then◌else◌};
 ghost use Rattle.std.specs.List.{prefix_len};
-ghost use Rattle.text.specs.Line.{is_space, not_space, answered, at_end, bytes_of, left, next_is, next_keyword, next_number, no_more, position, rest, words};
+ghost use Rattle.text.specs.Line.{answered, at_end, bytes_of, left, next_is, next_keyword, next_number, no_more, position, rest, words};
 
 use crate::number::parse_number;
 use crate::reader::{LineReader, Word};
@@ -9,7 +9,7 @@ use frame::Rejection;
 
 // How many spaces come first.
 fn space_count(bytes: &[u8]) -> usize
-    ensures value { result ≡ prefix_len is_space bytes.now }
+    ensures value { result ≡ prefix_len (λ c. c == 32) bytes.now }
     ensures within { result ≤ length bytes.now }
 {
     bytes.iter().take_while(|byte| **byte == b' ').count()
@@ -17,7 +17,7 @@ fn space_count(bytes: &[u8]) -> usize
 
 // How many bytes come before the first space.
 fn word_length(bytes: &[u8]) -> usize
-    ensures value { result ≡ prefix_len not_space bytes.now }
+    ensures value { result ≡ prefix_len (λ c. not (c == 32)) bytes.now }
     ensures within { result ≤ length bytes.now }
 {
     bytes.iter().take_while(|byte| **byte != b' ').count()
