@@ -1,14 +1,14 @@
 -- What is written reads back: the words of a line are those that it was written from, and the digits of a number mean that number.
-use Rattle.std.proofs.Common.{◌≡◌, ℕ, ◌+◌, ◌-◌, ◌^◌, ◌<◌, ◌≤◌, Bool, true, false, not, ◌&&◌, eqb, leb, List, [], ◌∷◌, ◌++◌, map, length, Some, Ok, codes, decimal, refl, ap, ◌∙◌, arith, rules}
+use Rattle.std.proofs.Common.{◌≡◌, ℕ, ◌+◌, ◌-◌, ◌^◌, ◌<◌, ◌≤◌, Bool, true, false, not, ◌&&◌, eqb, leb, List, [], ◌∷◌, ◌++◌, map, length, Some, Ok, codes, decimal, refl, ap, ◌∙◌, arith}
 use Rattle.std.proofs.lemmas.Fmt.{decimal_nonempty, digits_decimal, digits_value-decimal}
-use Rattle.std.proofs.lemmas.Str.Parse.{IsNumeralModel, numerals_by_fold}
 use Rattle.std.proofs.lemmas.Bool.{and_left, and_parts, eqb-false, le-leb, leb-true, lt-ltb, ne_eqb, not-true}
 use Rattle.std.specs.Char.{is_ascii_digit}
 use Rattle.std.specs.List.{AllByRecursion}
 use Rattle.std.specs.Str.{all_ascii_digits, bytes_eq}
 use Rattle.text.proofs.Cutting.{at_end, at_space, closed_word, grown}
+use Rattle.text.proofs.Digits.{own}
 use Rattle.frame.specs.declared.header.VideoHeader.{VideoHeader}
-use Rattle.text.specs.Line.{Words, end, word, closed, words, words_from, value, value_after, number_of, next_is}
+use Rattle.text.specs.Line.{Words, end, word, closed, words, words_from, value, number_of, next_is}
 use Rattle.text.specs.Promise.{Plain}
 use Rattle.text.specs.Text.{PacketFields, bytes_to_end, header_of, header_text, header_words, line_of, packet_of, packet_text, packet_words, pixels_of, row_of, row_text, spaced, worst_of, worst_text}
 
@@ -33,9 +33,6 @@ words_line [] h = at_end [] 0
 words_line (w ∷ ws) h = grown [] 0 w (spaced ws) h.0.no_space ∙ cut w (0 + length w) ws h.1 ∙ closed_word w 0 _ h.0.some
 
 -- A NUMBER'S DIGITS
-own : IsNumeralModel (λ ds. all_ascii_digits ds ≡ true) (value_after 0)
-own = numerals_by_fold _ (search rules) value_after (search rules)
-
 no_spaces : (w : List ℕ) → all_ascii_digits w ≡ true → AllByRecursion (λ c. c ≡ 32 → ⊥) w
 no_spaces [] h = tt
 no_spaces (c ∷ cs) h =
