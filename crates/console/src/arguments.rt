@@ -1,4 +1,4 @@
-// The words after a program's name.
+// The words after a program's name. Other crates know them as `NamedArguments`, and as `Arguments` where the name lives for ever.
 ghost use Rattle.std.specs.Prelude.{◌≡◌, ◌≤◌, IfOk};
 ghost use Rattle.std.specs.Iterator.{at_most};
 ghost use Rattle.console.specs.Arguments.{unknown_text, words_left};

@@ -1,7 +1,10 @@
-use crate::{Arguments, Input, Lines, Output, Refusal, Source, Wish, read_wish};
-use std::fs;
+use crate::{
+    Arguments, Input, Lines, NamedArguments, NamedWish, Output, Refusal, Source, Wish,
+    read_named_wish, read_wish,
+};
 use std::io::Write;
 use std::test::Fail;
+use std::{fs, mem};
 
 const FILE: &str = "/tmp/zukhtavo-console-lines";
 
@@ -9,8 +12,36 @@ const FILE: &str = "/tmp/zukhtavo-console-lines";
 #[derive(Drop)]
 struct Anything;
 
-impl Wish for Anything {
-    fn take(&mut self, _word: String, _arguments: &mut Arguments<'_>) -> Result<(), Refusal> {
+impl NamedWish for Anything {
+    fn take(&mut self, _word: String, _arguments: &mut NamedArguments<'_>) -> Result<(), Refusal> {
+        Ok(())
+    }
+
+    fn check(&self) -> Result<(), Refusal> {
+        Ok(())
+    }
+}
+
+// Holds words of its own, and has these say what is said of a word.
+#[derive(Drop)]
+struct Exchanging {
+    own: Arguments,
+    said: Option<Refusal>,
+}
+
+// One that holds words named `own`.
+fn holding_words(rt: &HostRuntime) -> Result<Exchanging, Refusal> {
+    Ok(Exchanging {
+        own: Arguments::new(rt, "own")?,
+        said: None,
+    })
+}
+
+impl Wish for Exchanging {
+    fn take(&mut self, word: String, arguments: &mut Arguments) -> Result<(), Refusal> {
+        mem::swap(&mut self.own, arguments);
+        self.said = Some(arguments.unknown_option(word.as_str()));
+        mem::swap(&mut self.own, arguments);
         Ok(())
     }
 
@@ -44,6 +75,35 @@ fn reads_lines(rt: HostRuntime) -> Result<(), Fail> {
 
 #[test]
 fn reads_wish(rt: HostRuntime) -> Result<(), Fail> {
-    let _ = read_wish(&rt, "test", Anything).map_err(Fail::new)?;
+    let _ = read_named_wish(&rt, "test", Anything).map_err(Fail::new)?;
+    Ok(())
+}
+
+#[test]
+fn reads_wish_with_words_of_its_own(rt: HostRuntime) -> Result<(), Fail> {
+    let wish = holding_words(&rt).map_err(Fail::new)?;
+    let read = read_wish(&rt, "test", wish).map_err(Fail::new)?;
+    assert!(rt; read.is_some());
+    Ok(())
+}
+
+#[test]
+fn exchanges_words(rt: HostRuntime) -> Result<(), Fail> {
+    let heap = rt.alloc();
+    let mut wish = holding_words(&rt).map_err(Fail::new)?;
+    let mut arguments = Arguments::new(&rt, "test").map_err(Fail::new)?;
+    let word = format!(in heap; "--none")?;
+    wish.take(word, &mut arguments).map_err(Fail::new)?;
+    let Some(own) = &wish.said else {
+        return Err(Fail::new("nothing was said of the word"));
+    };
+    let own = format!(in heap; "{own}")?;
+    assert_eq!(rt; own.as_str(), "there is no option `--none`; see own --help");
+    let lent = arguments.unknown_option("--none");
+    let lent = format!(in heap; "{lent}")?;
+    assert_eq!(rt;
+        lent.as_str(),
+        "there is no option `--none`; see test --help"
+    );
     Ok(())
 }

@@ -1,16 +1,19 @@
-// What the words after a program's name ask for.
+// What the words after a program's name ask for, where the name lives for ever, as a literal does.
 ghost use Rattle.std.specs.Prelude.{◌≤◌, IfOk, IfSome, OnOk};
 ghost use Rattle.console.specs.Arguments.{words_left};
 
-use crate::arguments::Arguments;
+use crate::NamedArguments;
 use crate::refusal::Refusal;
+
+// The words of such a program, which a wish may exchange for words that it holds.
+pub type Arguments = NamedArguments<'static>;
 
 pub trait Wish: Drop {
     // Holds of what can be asked for together.
     ghost allowed: { Self → Type 0 } = { λ _. Unit {0} };
 
     // Takes a word, and of the words after it what belongs to it.
-    fn take(&mut self, word: String, arguments: &mut Arguments<'_>) -> Result<(), Refusal>
+    fn take(&mut self, word: String, arguments: &mut Arguments) -> Result<(), Refusal>
         ensures { words_left arguments.new ≤ words_left arguments.old };
 
     // Refuses what cannot be asked for together.
@@ -19,9 +22,10 @@ pub trait Wish: Drop {
 }
 
 // What the words ask for, or nothing if one of them asks for help.
+// Not by way of `read_named_wish`, which lends words with a name of any life, so that none could be held.
 pub fn read_wish<W: Wish>(
     rt: &HostRuntime,
-    program: &str,
+    program: &'static str,
     mut wish: W,
 ) -> Result<Option<W>, Refusal>
     ensures { IfOk result (λ read. IfSome read W.allowed) }

@@ -29,7 +29,7 @@ across, 60 down and 224 in all.
 const FIRST: usize = 9;
 
 fn run(rt: &HostRuntime) -> Result<(), Refusal> {
-    let Some(wish) = console::read_wish(rt, "encode", Wish::default())? else {
+    let Some(wish) = console::read_named_wish(rt, "encode", Wish::default())? else {
         rt.println(HELP)?;
         return Ok(());
     };

@@ -2,7 +2,7 @@
 ghost use Rattle.std.specs.Prelude.{◌≤◌};
 ghost use Rattle.console.specs.Arguments.{words_left};
 
-use console::{Arguments, Refusal};
+use console::{NamedArguments, Refusal};
 use pictures::KeyInterval;
 
 #[derive(Default, Drop)]
@@ -14,15 +14,15 @@ pub struct Wish {
     pub file: Option<String>,
 }
 
-fn read_interval(arguments: &mut Arguments<'_>) -> Result<KeyInterval, Refusal>
+fn read_interval(arguments: &mut NamedArguments<'_>) -> Result<KeyInterval, Refusal>
     ensures { words_left arguments.new ≤ words_left arguments.old }
 {
     let interval = KeyInterval::new(arguments.number("--key")?);
     Ok(interval.ok_or("after --key should stand a number of at least 1")?)
 }
 
-impl console::Wish for Wish {
-    fn take(&mut self, word: String, arguments: &mut Arguments<'_>) -> Result<(), Refusal> {
+impl console::NamedWish for Wish {
+    fn take(&mut self, word: String, arguments: &mut NamedArguments<'_>) -> Result<(), Refusal> {
         match word.as_str() {
             "--step" => self.step = Some(arguments.number("--step")?),
             "--key" => self.key = Some(read_interval(arguments)?),

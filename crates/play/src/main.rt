@@ -59,7 +59,7 @@ fn play_binary(rt: &HostRuntime, source: Source, wish: &Wish) -> Result<(), Refu
 }
 
 fn run(rt: &HostRuntime) -> Result<(), Refusal> {
-    let Some(wish) = console::read_wish(rt, "play", Wish::default())? else {
+    let Some(wish) = console::read_named_wish(rt, "play", Wish::default())? else {
         rt.println(HELP)?;
         return Ok(());
     };

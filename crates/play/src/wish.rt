@@ -2,7 +2,7 @@
 ghost use Rattle.std.specs.Prelude.{◌≤◌, IsSome};
 ghost use Rattle.console.specs.Arguments.{words_left};
 
-use console::{Arguments, Refusal};
+use console::{NamedArguments, Refusal};
 use pictures::FrameRate;
 
 #[derive(Default, Drop)]
@@ -15,7 +15,7 @@ pub struct Wish {
     pub rate: Option<FrameRate>,
 }
 
-fn read_rate(arguments: &mut Arguments<'_>) -> Result<FrameRate, Refusal>
+fn read_rate(arguments: &mut NamedArguments<'_>) -> Result<FrameRate, Refusal>
     ensures { words_left arguments.new ≤ words_left arguments.old }
 {
     let word = arguments.value("--rate")?;
@@ -34,11 +34,11 @@ impl Wish {
     }
 }
 
-impl console::Wish for Wish {
+impl console::NamedWish for Wish {
     // A rate is one of a stream.
     ghost allowed = { λ wish. IsSome wish.rate → IsSome wish.y4m };
 
-    fn take(&mut self, word: String, arguments: &mut Arguments<'_>) -> Result<(), Refusal> {
+    fn take(&mut self, word: String, arguments: &mut NamedArguments<'_>) -> Result<(), Refusal> {
         match word.as_str() {
             "show" => self.show = true,
             "--y4m" => self.y4m = Some(arguments.value("--y4m")?),

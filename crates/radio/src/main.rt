@@ -56,7 +56,7 @@ fn pass_binary(rt: &HostRuntime, source: Source, air: &mut Air) -> Result<(), Re
 
 fn run(rt: &HostRuntime) -> Result<(), Refusal> {
     let heap = rt.alloc();
-    let Some(wish) = console::read_wish(rt, "radio", Wish::new(heap))? else {
+    let Some(wish) = console::read_named_wish(rt, "radio", Wish::new(heap))? else {
         rt.println(HELP)?;
         return Ok(());
     };

@@ -1,6 +1,6 @@
 // What the words after the program's name ask for.
 use crate::air::Weather;
-use console::{Arguments, Refusal};
+use console::{NamedArguments, Refusal};
 use std::alloc::Global;
 
 #[derive(Drop)]
@@ -32,8 +32,8 @@ impl Wish {
     }
 }
 
-impl console::Wish for Wish {
-    fn take(&mut self, word: String, arguments: &mut Arguments<'_>) -> Result<(), Refusal> {
+impl console::NamedWish for Wish {
+    fn take(&mut self, word: String, arguments: &mut NamedArguments<'_>) -> Result<(), Refusal> {
         match word.as_str() {
             "--binary" => self.binary = true,
             option if option.starts_with("--") => return Err(arguments.unknown_option(option)),
