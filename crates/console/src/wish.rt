@@ -22,7 +22,7 @@ pub trait Wish: Drop {
 }
 
 // What the words ask for, or nothing if one of them asks for help.
-// Not by way of `read_named_wish`, which lends words with a name of any life, so that none could be held.
+// Not by way of `read_named_wish`, which lends words with a name of any lifetime, so that none could be held.
 pub fn read_wish<W: Wish>(
     rt: &HostRuntime,
     program: &'static str,
