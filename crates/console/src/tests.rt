@@ -82,8 +82,12 @@ fn reads_wish(rt: HostRuntime) -> Result<(), Fail> {
 #[test]
 fn reads_wish_with_words_of_its_own(rt: HostRuntime) -> Result<(), Fail> {
     let wish = holding_words(&rt).map_err(Fail::new)?;
-    let read = read_wish(&rt, "test", wish).map_err(Fail::new)?;
-    assert!(rt; read.is_some());
+    let Some(read) = read_wish(&rt, "test", wish).map_err(Fail::new)? else {
+        return Err(Fail::new("help was asked for"));
+    };
+    // The same words once more: where there are any, the wish has taken them.
+    let first = Arguments::new(&rt, "test").map_err(Fail::new)?.next();
+    assert_eq!(rt; read.said.is_some(), first.is_some());
     Ok(())
 }
 
